@@ -11,7 +11,7 @@ abbrev pub onto_front : List ℕ → List (List ℕ) → List (List ℕ)
 onto_front front [] = front ∷ []
 onto_front front (part ∷ parts) = (front ++ part) ∷ parts
 
-onto_front-onto_first : (front : List ℕ) (byte : ℕ) (parts : List (List ℕ)) → onto_front front (onto_first byte parts) ≡ onto_front (front ++ byte ∷ []) parts
+pub onto_front-onto_first : (front : List ℕ) (byte : ℕ) (parts : List (List ℕ)) → onto_front front (onto_first byte parts) ≡ onto_front (front ++ byte ∷ []) parts
 onto_front-onto_first front byte [] = refl
 onto_front-onto_first front byte (part ∷ parts) = ap (λ (p : List ℕ). p ∷ parts) (sym (append_assoc front (byte ∷ []) part))
 
@@ -23,12 +23,6 @@ words_of-other byte bytes other = at (nat_eq byte 32) refl where
 
 words_of-space : (byte : ℕ) (bytes : List ℕ) → byte ≡ 32 → words_of (byte ∷ bytes) ≡ [] ∷ words_of bytes
 words_of-space byte bytes is = rw is refl
-
-lines_of-other : (byte : ℕ) (bytes : List ℕ) → byte ≢ 10 → lines_of (byte ∷ bytes) ≡ onto_first byte (lines_of bytes)
-lines_of-other byte bytes other = at (nat_eq byte 10) refl where
-  at : (b : Bool) → nat_eq byte 10 ≡ b → cond b ([] ∷ lines_of bytes) (onto_first byte (lines_of bytes)) ≡ onto_first byte (lines_of bytes)
-  at true is = absurd (other (eqb-true byte 10 is))
-  at false is = refl
 
 pub onto_front-nil : (parts : List (List ℕ)) → (part : List ℕ) (more : List (List ℕ)) → parts ≡ part ∷ more → onto_front [] parts ≡ parts
 onto_front-nil parts part more is = rw is refl

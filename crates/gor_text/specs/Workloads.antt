@@ -1,5 +1,5 @@
 -- The text of a workload.
-use Rattle.std.specs.Prelude.{◌≡◌, ℕ, ◌+◌, zero, suc, List, [], ◌∷◌, ◌++◌, map, replicate, length, Option, Some, None, Bool, true, false, IsTrue, IsFalse}
+use Rattle.std.specs.Prelude.{◌≡◌, ℕ, ◌+◌, ◌<◌, zero, suc, List, [], ◌∷◌, ◌++◌, map, replicate, length, Option, Some, None, Bool, true, false, IsTrue, IsFalse, ⊤}
 use Rattle.std.specs.List.{AllByRecursion, list_all}
 use Rattle.gor_text.specs.declared.workload.Line.{Line}
 use Rattle.gor_text.specs.declared.workload.Item.{Item}
@@ -17,6 +17,12 @@ onto_lane lane line [] = []
 onto_lane zero line (lines ∷ lanes) = (line ∷ lines) ∷ lanes
 onto_lane (suc lane) line (lines ∷ lanes) = lines ∷ onto_lane lane line lanes
 
+-- a line behind those of a lane
+abbrev pub behind_lane : ℕ → Line → List (List Line) → List (List Line)
+behind_lane lane line [] = []
+behind_lane zero line (lines ∷ lanes) = (lines ++ line ∷ []) ∷ lanes
+behind_lane (suc lane) line (lines ∷ lanes) = lines ∷ behind_lane lane line lanes
+
 abbrev pub onto_phase : ℕ → Line → List (List (List Line)) → List (List (List Line))
 onto_phase lane line [] = []
 onto_phase lane line (lanes ∷ phases) = onto_lane lane line lanes ∷ phases
@@ -26,6 +32,21 @@ phases_of [] = empty_lanes ∷ []
 phases_of (Skipped ∷ items) = phases_of items
 phases_of (Joined ∷ items) = empty_lanes ∷ phases_of items
 phases_of (OnLane lane line ∷ items) = onto_phase lane line (phases_of items)
+
+-- the phases that ended and the one that goes on, after an item
+abbrev pub ended_after : Item → List (List (List Line)) → List (List Line) → List (List (List Line))
+ended_after Joined ended current = ended ++ current ∷ []
+ended_after item ended current = ended
+
+abbrev pub current_after : Item → List (List Line) → List (List Line)
+current_after Skipped current = current
+current_after Joined current = empty_lanes
+current_after (OnLane lane line) current = behind_lane lane line current
+
+-- the lane of a line is one of the eight
+abbrev pub HasLane : Item → Type 0
+HasLane (OnLane lane line) = lane < 8
+HasLane item = ⊤
 
 -- a line that says something, and something that is accepted
 abbrev pub is_good_item : (Item → Bool) → Option Item → Bool

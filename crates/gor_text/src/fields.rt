@@ -1,4 +1,4 @@
-ghost use Rattle.std.specs.Prelude.{◌≡◌, [], ◌∷◌, length, MatchOption, IfOk, Some, None};
+ghost use Rattle.std.specs.Prelude.{◌≡◌, [], ◌∷◌, length, MatchOption, IfOk, IfSome, Some, None, ◌<◌};
 ghost use Rattle.gor_text.specs.Grammar.{words_of, digit_in, value_from, number_of, word_of, lane_of};
 
 /// The first word of a text, and the text behind the space that ends it.
@@ -61,7 +61,8 @@ pub(crate) fn word(text: &[u8]) -> Option<u64>
 
 /// A lane's number, 0 to 7.
 pub(crate) fn lane(text: &[u8]) -> Option<u32>
-    ensures { result ≡ lane_of text.now }
+    ensures value { result ≡ lane_of text.now }
+    ensures below { IfSome result (λ n. n < 8) }
 {
     let lane = number(text)?;
     if lane < 8 { Some(lane as u32) } else { None }

@@ -1,5 +1,6 @@
-ghost use Rattle.std.specs.Prelude.{◌≡◌, [], ◌∷◌, length, IfOk, MatchOption, Some, None, option_map, if◌then◌else◌};
+ghost use Rattle.std.specs.Prelude.{◌≡◌, [], ◌∷◌, length, IfOk, IfSome, MatchOption, Some, None, option_map, if◌then◌else◌};
 ghost use Rattle.std.specs.Str.{is_utf8};
+ghost use Rattle.gor_text.specs.Workloads.{HasLane};
 ghost use Rattle.gor_text.specs.Grammar.{words_of, one_of, two_of, three_of, is_named, put_of, get_of, del_of, flush_of, finish_of, merge_of, names_of, line_of, said_of, spelled_of, item_of};
 
 use crate::fields::{first_word, lane, number, word};
@@ -171,7 +172,8 @@ fn line(alloc: Global, verb: &[u8], words: &[u8]) -> Result<Option<Line>, AllocE
 
 /// What the words of a lane's line say, behind its lane.
 fn lane_item(alloc: Global, text: &[u8], words: &[u8]) -> Result<Option<Item>, AllocError>
-    ensures { IfOk result (λ item. item ≡ said_of (text.now ∷ words_of words.now)) }
+    ensures said { IfOk result (λ item. item ≡ said_of (text.now ∷ words_of words.now)) }
+    ensures lane { IfOk result (λ item. IfSome item HasLane) }
 {
     let (verb, Some(words)) = first_word(words) else {
         return Ok(None);
@@ -187,7 +189,8 @@ fn lane_item(alloc: Global, text: &[u8], words: &[u8]) -> Result<Option<Item>, A
 
 /// What the words of a line say.
 fn said(alloc: Global, text: &[u8]) -> Result<Option<Item>, AllocError>
-    ensures { IfOk result (λ item. item ≡ said_of (words_of text.now)) }
+    ensures said { IfOk result (λ item. item ≡ said_of (words_of text.now)) }
+    ensures lane { IfOk result (λ item. IfSome item HasLane) }
 {
     match first_word(text) {
         (word, None) => {
@@ -203,7 +206,8 @@ fn said(alloc: Global, text: &[u8]) -> Result<Option<Item>, AllocError>
 
 /// What a line says, where it is UTF-8.
 fn spelled(alloc: Global, text: &[u8]) -> Result<Option<Item>, AllocError>
-    ensures { IfOk result (λ item. item ≡ spelled_of text.now) }
+    ensures said { IfOk result (λ item. item ≡ spelled_of text.now) }
+    ensures lane { IfOk result (λ item. IfSome item HasLane) }
 {
     match text {
         [] | [b'#', ..] => Ok(Some(Item::Skipped)),
@@ -223,7 +227,8 @@ fn is_text(bytes: &[u8]) -> bool
 
 /// What a line, without its LF, says; `None` exactly where it is no workload line.
 pub fn read_item(alloc: Global, text: &[u8]) -> Result<Option<Item>, AllocError>
-    ensures { IfOk result (λ item. item ≡ item_of text.now) }
+    ensures said { IfOk result (λ item. item ≡ item_of text.now) }
+    ensures lane { IfOk result (λ item. IfSome item HasLane) }
 {
     if is_text(text) {
         spelled(alloc, text)

@@ -5,16 +5,16 @@
 //! and which text answers a workload in `specs/LineAnswers.antt` and `specs/Transcripts.antt`.
 #![tactic(auto)]
 
-//pub mod accept;
+pub mod accept;
 pub mod answer;
 pub mod fields;
 pub mod item;
-//pub mod reader;
+pub mod reader;
 //pub mod spelling;
 pub mod workload;
 
-//pub use accept::{Accepts, EveryLine};
+pub use accept::{Accepts, EveryLine};
 pub use answer::{LaneAnswer, Reason, What};
-//pub use reader::{TextFault, read_accepted, read_workload};
+pub use reader::TextFault;
 //pub use spelling::write_answer;
 pub use workload::{Item, Line, Names, Phase, Workload};

@@ -78,6 +78,32 @@ pub struct Phase {
     pub lanes: Vec<Vec<Line>>,
 }
 
+impl Phase {
+    ghost use Rattle.std.specs.Prelude.{◌≡◌, ◌<◌, length, IfOk, OnOk};
+    ghost use Rattle.gor_text.specs.Workloads.{empty_lanes, phase_lines, behind_lane};
+
+    /// Eight lanes with no line.
+    pub fn new(alloc: Global) -> Result<Phase, AllocError>
+        ensures { IfOk result (λ phase. phase_lines phase ≡ empty_lanes) }
+    {
+        let mut lanes = Vec::with_capacity(alloc, 8)?;
+        for _lane in 0..8u32 {
+            lanes.push(Vec::new(alloc))?;
+        }
+        Ok(Phase { lanes })
+    }
+
+    /// Adds a line behind those of its lane.
+    pub fn add(&mut self, lane: u32, line: Line) -> Result<(), AllocError>
+        requires { lane < length (phase_lines self.old) }
+        ensures { OnOk result (phase_lines self.new ≡ behind_lane lane line (phase_lines self.old)) }
+    {
+        let lines = &mut self.lanes[lane as usize];
+        lines.push(line)?;
+        Ok(())
+    }
+}
+
 /// Phases in order: those that `join` ended, and the last.
 #[derive(Drop)]
 pub struct Workload {
