@@ -2,3 +2,4 @@ pub mod Words
 pub mod NameLists
 pub mod Lanes
 pub mod Lines
+pub mod Readings

@@ -15,6 +15,6 @@ pub mod workload;
 
 pub use accept::{Accepts, EveryLine};
 pub use answer::{LaneAnswer, Reason, What};
-pub use reader::TextFault;
+pub use reader::{TextFault, read_accepted, read_workload};
 //pub use spelling::write_answer;
 pub use workload::{Item, Line, Names, Phase, Workload};

@@ -50,6 +50,7 @@ fn good_item<A: Accepts>(alloc: Global, text: &[u8], accept: &A) -> Result<Optio
 }
 
 /// The phases that were read so far, the last of which goes on.
+#[derive(Drop)]
 struct Reading {
     ended: Vec<Phase>,
     current: Phase,
@@ -87,4 +88,52 @@ impl Reading {
             Item::OnLane { lane, line } => self.current.add(lane, line),
         }
     }
+}
+
+impl From<AllocError> for TextFault {
+    ghost use Rattle.gor_text.specs.declared.reader.TextFault.TheVariants.{NoMemory};
+
+    ghost from_gives = { λ _ e. e ≡ NoMemory };
+
+    fn from(_: AllocError) -> TextFault {
+        TextFault::NoMemory
+    }
+}
+
+/// Reads a workload of which only some lines are taken: its phases, or the first line that is bad.
+///
+/// A line is bad where it is no workload line or `accept` does not take what it says. The text is read once, from its front.
+pub fn read_accepted<A: Accepts>(
+    alloc: Global,
+    bytes: &[u8],
+    accept: &A,
+) -> Result<Workload, TextFault>
+    ensures read { IfOk result (λ workload. IsWorkloadText (A.accepts accept.now) bytes.now (lines_in workload)) }
+    ensures bad { (line : ℕ) → result ≡ Err (TextFault.Line line) → IsFirstBad (A.accepts accept.now) bytes.now line }
+{
+    let mut reading = Reading::new(alloc)?;
+    let mut text = bytes;
+    let mut line = 0u64;
+    while !text.is_empty() {
+        let (first, rest) = first_line(text);
+        line += 1;
+        let Some(item) = good_item(alloc, first, accept)? else {
+            return Err(TextFault::Line { line });
+        };
+        reading.add(alloc, item)?;
+        text = rest;
+    }
+    let Reading { ended, current } = reading;
+    let mut phases = ended;
+    phases.push(current).map_err(AllocError::from)?;
+    Ok(Workload { phases })
+}
+
+/// Reads a workload: its phases, each with the lines of its eight lanes, or the first line, from 1, that is no workload
+/// line.
+pub fn read_workload(alloc: Global, bytes: &[u8]) -> Result<Workload, TextFault>
+    ensures read { IfOk result (λ workload. IsWorkloadText every_line bytes.now (lines_in workload)) }
+    ensures bad { (line : ℕ) → result ≡ Err (TextFault.Line line) → IsFirstBad every_line bytes.now line }
+{
+    read_accepted(alloc, bytes, &EveryLine)
 }
