@@ -38,6 +38,13 @@ impl Points {
         }
     }
 
+    /// The points in order.
+    pub fn as_slice(&self) -> &[Point]
+        ensures { result.now ≡ self.now }
+    {
+        &self.items
+    }
+
     /// How many points there are.
     pub fn len(&self) -> usize
         ensures { result ≡ length self.now }

@@ -3,3 +3,6 @@ pub mod NameLists
 pub mod Lanes
 pub mod Lines
 pub mod Readings
+pub mod Spellings
+pub mod TextRows
+pub mod PlainRun

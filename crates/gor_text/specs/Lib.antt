@@ -1,2 +1,5 @@
 pub mod Grammar
 pub mod Workloads
+pub mod Spelling
+pub mod LineAnswers
+pub mod Transcripts

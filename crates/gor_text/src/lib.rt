@@ -9,11 +9,13 @@ pub mod accept;
 pub mod answer;
 pub mod fields;
 pub mod item;
+pub mod merged;
 pub mod reader;
-//pub mod spelling;
+pub mod spelling;
 pub mod workload;
 
 pub use accept::{Accepts, EveryLine};
+pub use merged::MergedPoints;
 pub use answer::{LaneAnswer, Reason, What};
 pub use reader::{TextFault, read_accepted, read_workload};
 //pub use spelling::write_answer;

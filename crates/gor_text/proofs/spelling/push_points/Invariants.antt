@@ -1,0 +1,7 @@
+use Rattle.std.proofs.Common.{◌≡◌, ◌++◌, take}
+use Rattle.std.specs.Prelude.{flat_map}
+use Rattle.gor_text.specs.Spelling.{point_text}
+use Rattle.gor_text.proofs.spelling.push_points.Given as goal
+
+abbrev pub invariant-loop-point : goal.invariant-loop-point
+invariant-loop-point l = l.out.items ≡ l.fn.out.items ++ flat_map point_text (take l.point-index l.point-items)
