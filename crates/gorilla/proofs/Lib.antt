@@ -1,0 +1,3 @@
+pub mod KnownParts
+pub mod OutputParts
+pub mod InputParts

@@ -1,0 +1,31 @@
+-- A text that is written piece by piece.
+use Rattle.std.proofs.Common.{◌≡◌, ℕ, ◌<◌, ◌≤◌, List, [], ◌++◌, length, take, drop, Option, refl, sym, ap, subst, ◌∙◌, append_assoc, append-nil, take-append-drop}
+use Rattle.std.specs.Io.KnownBytes.{Appends}
+use Rattle.gorilla.proofs.KnownParts.{grown_by_none, grown_twice}
+use Rattle.gorilla.specs.Outputs.{AppendsPart}
+
+-- a front of the text was written, and the rest is left
+pub record WrittenSoFar (before after : Option (List ℕ)) (faults_before faults_after : ℕ) (text rest : List ℕ) : Type 0 where
+  pub front : List ℕ
+  pub parted : text ≡ front ++ rest
+  pub written : Appends before after front
+  pub quiet : faults_after ≡ faults_before
+
+pub nothing_written : (before : Option (List ℕ)) (faults : ℕ) (text : List ℕ) → WrittenSoFar before before faults faults text text
+nothing_written before faults text = record { front = []; parted = refl; written = grown_by_none before; quiet = refl }
+
+pub goes_on : (before after later : Option (List ℕ)) (faults now then : ℕ) (text rest : List ℕ) (count : ℕ) → WrittenSoFar before after faults now text rest
+    → Appends after later (take count rest) → then ≡ now → WrittenSoFar before later faults then text (drop count rest)
+goes_on before after later faults now then text rest count w took same = record {
+  front = w.front ++ take count rest;
+  parted = w.parted ∙ (ap (λ (r : List ℕ). w.front ++ r) (sym (take-append-drop count rest)) ∙ sym (append_assoc w.front (take count rest) (drop count rest)));
+  written = grown_twice before after later w.front (take count rest) w.written took;
+  quiet = same ∙ w.quiet;
+}
+
+pub all_written : (before after : Option (List ℕ)) (faults now : ℕ) (text rest : List ℕ) → WrittenSoFar before after faults now text rest → rest ≡ [] → Appends before after text
+all_written before after faults now text rest w none =
+    subst (Appends before after) (sym (w.parted ∙ (ap (λ (r : List ℕ). w.front ++ r) none ∙ append-nil w.front))) w.written
+
+pub part_written : (before after : Option (List ℕ)) (faults now : ℕ) (text rest : List ℕ) → WrittenSoFar before after faults now text rest → AppendsPart before after text
+part_written before after faults now text rest w = record { front = w.front; rest = rest; parted = w.parted; written = w.written }

@@ -1,0 +1,9 @@
+//! An in-memory store of time series.
+#![tactic(auto)]
+
+mod input;
+mod output;
+
+fn main(rt: HostRuntime) {
+    let _ = rt;
+}
