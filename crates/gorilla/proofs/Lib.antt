@@ -1,3 +1,5 @@
 pub mod KnownParts
 pub mod OutputParts
 pub mod InputParts
+pub mod ShelfLaws
+pub mod FirstRun

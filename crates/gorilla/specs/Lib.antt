@@ -1,2 +1,6 @@
 pub mod Inputs
 pub mod Outputs
+pub mod Words
+pub mod FirstLines
+pub mod Shelves
+pub mod Runs

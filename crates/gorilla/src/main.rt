@@ -1,8 +1,11 @@
 //! An in-memory store of time series.
 #![tactic(auto)]
 
+mod first_lines;
 mod input;
 mod output;
+mod shelf;
+mod words;
 
 fn main(rt: HostRuntime) {
     let _ = rt;
