@@ -18,5 +18,5 @@ pub use accept::{Accepts, EveryLine};
 pub use merged::MergedPoints;
 pub use answer::{LaneAnswer, Reason, What};
 pub use reader::{TextFault, read_accepted, read_workload};
-//pub use spelling::write_answer;
+pub use spelling::write_answer;
 pub use workload::{Item, Line, Names, Phase, Workload};

@@ -3,3 +3,5 @@ pub mod OutputParts
 pub mod InputParts
 pub mod ShelfLaws
 pub mod FirstRun
+pub mod Taking
+pub mod AnswerSteps

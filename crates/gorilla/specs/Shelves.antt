@@ -66,3 +66,7 @@ first_lane (lanes ∷ phases) = first_list lanes
 
 abbrev pub one_lane : List Line → List (List (List Line))
 one_lane lines = (lines ∷ [] ∷ [] ∷ [] ∷ [] ∷ [] ∷ [] ∷ [] ∷ []) ∷ []
+
+abbrev pub last_time_in : Option (List Point) → Option ℕ
+last_time_in None = None
+last_time_in (Some points) = option_map (λ p. p.time) (last_of points)

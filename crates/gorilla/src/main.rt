@@ -1,6 +1,7 @@
 //! An in-memory store of time series.
 #![tactic(auto)]
 
+mod answers;
 mod first_lines;
 mod input;
 mod output;
