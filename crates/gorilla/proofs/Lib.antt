@@ -5,3 +5,4 @@ pub mod ShelfLaws
 pub mod FirstRun
 pub mod Taking
 pub mod AnswerSteps
+pub mod BadLines

@@ -4,3 +4,4 @@ pub mod Words
 pub mod FirstLines
 pub mod Shelves
 pub mod Runs
+pub mod Statuses
