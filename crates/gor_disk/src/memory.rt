@@ -104,7 +104,7 @@ impl MemoryDisk {
         ensures clock { CountsOn result (⟦<MemoryDisk as Disk>⟧.view self.old) (⟦<MemoryDisk as Disk>⟧.view self.new) }
         ensures cause { CountsFault result (⟦<MemoryDisk as Disk>⟧.faults self.old) (⟦<MemoryDisk as Disk>⟧.faults self.new) }
     {
-        let none = prepare(
+        let nothing = prepare(
             self.alloc,
             &mut self.calls,
             &mut self.kept,
@@ -119,7 +119,7 @@ impl MemoryDisk {
             len,
             failed,
         };
-        note(&mut self.calls, &mut self.kept, call, none);
+        note(&mut self.calls, &mut self.kept, call, nothing);
         answered(failed)
     }
 }
@@ -299,15 +299,15 @@ impl Disk for MemoryDisk {
             &mut self.unlisted,
             bytes,
         )?;
-        let failed = is_planned(&self.failing, self.calls.len());
+        let refused = is_planned(&self.failing, self.calls.len());
         let call = DiskCall {
             file,
             kind: DiskKind::Sync,
             at: 0,
             len: 0,
-            failed,
+            failed: refused,
         };
         note(&mut self.calls, &mut self.kept, call, copy);
-        answered(failed)
+        answered(refused)
     }
 }
