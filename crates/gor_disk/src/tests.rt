@@ -87,7 +87,7 @@ fn fits(row: &Row, got: &[u8]) -> bool {
 }
 
 fn check_row(rt: &impl Abort, alloc: Global, disk: &MemoryDisk, row: &Row) -> Result<(), Fail> {
-    for moment in row.from..row.to + 1 {
+    for moment in row.from..=row.to {
         for choice in 0..16 {
             let got = image_of(alloc, disk, moment, choice, row.file)?;
             assert!(rt; fits(row, &got), "moment {moment}, choice {choice}");
