@@ -1,12 +1,11 @@
 -- One gated file gets a body, and then another: from what each append promises.
-use Rattle.std.proofs.Common.{◌≡◌, ◌≢◌, ◌⊎◌, inl, inr, ⊎_elim, ℕ, List, Result, Ok, Err, OnOk, refl, sym, ◌∙◌, ap, subst, arith}
-use Rattle.gor_disk.specs.declared.disk.FileId.{FileId}
-use Rattle.gor_disk.specs.Disk.{DiskView, Contents, IsImage, IsImageAt, IsSettled, Touches, Runs, settled, held_now}
+use Rattle.std.proofs.Common.{◌≡◌, ◌≢◌, inl, inr, ⊎_elim, ℕ, List, sym, ◌∙◌, ap, subst}
+use Rattle.gor_disk.specs.Disk.{DiskView, Contents, IsImage, IsImageAt, IsSettled, Touches, Runs}
 use Rattle.gor_disk.proofs.Runs.{only_settled, still, started, goes_on}
 use Rattle.gor_gate.proofs.Ensured.{closed_if_ready, as_it_is}
-use Rattle.gor_gate.specs.Gates.{Walk, gates, pushed, IsReady, IsClosed, IsOldOrNew}
+use Rattle.gor_gate.specs.Gates.{gates, pushed, IsReady, IsClosed, IsOldOrNew}
 use Rattle.gor_gate.specs.Places.{Place, IsEnsured}
-use Rattle.gor_gate.specs.Pairs.{InOrder, IsBetween}
+use Rattle.gor_gate.specs.Pairs.{IsBetween}
 
 module _ (first second : Place) (two : first.file ≢ second.file) (first_body second_body : List ℕ) (old : DiskView) (first_ready : IsEnsured first old) (second_ready : IsEnsured second old) where
   abbrev pub P : Contents → Type 0

@@ -13,7 +13,9 @@ use std::test::Fail;
 
 const MARKS: FileId = FileId::Marks;
 
-fn framed(alloc: Global, body: &[u8]) -> Result<Frame, AllocError> {
+fn framed(alloc: Global, body: &[u8]) -> Result<Frame, AllocError>
+    ensures { IfOk result (λ frame. frame.body ≡ body.now) }
+{
     let mut frame = Frame::new(alloc)?;
     frame.reserve(body.len())?;
     frame.push_reserved(body);

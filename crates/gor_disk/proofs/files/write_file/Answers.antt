@@ -1,9 +1,8 @@
-use Rattle.std.proofs.Common.{rules, ◌≡◌, ◌<◌, ◌≤◌, List, ℕ, [], ◌∷◌, ◌++◌, length, refl, sym, ◌∙◌, ap, arith}
+use Rattle.std.proofs.Common.{rules, ◌≡◌, ◌<◌, ◌≤◌, List, length, refl, sym, ◌∙◌, ap, arith}
 use Rattle.gor_disk.specs.declared.files.File.{File}
 use Rattle.gor_disk.specs.Memory.{contents, place}
-use Rattle.gor_disk.specs.Disk.{overwritten}
 use Rattle.gor_disk.proofs.Lookups.{push_here, push_others}
-use Rattle.gor_disk.proofs.Edits.{absent, overwritten_none, old_bytes, edited_here, edited_others, written_done, written_err}
+use Rattle.gor_disk.proofs.Edits.{absent, overwritten_none, old_bytes, edited_others, written_done, written_err}
 use Rattle.gor_disk.proofs.files.write_file.Goals as goal
 
 pub write_over-requires : goal.write_over-requires

@@ -1,6 +1,6 @@
-use Rattle.std.proofs.Common.{◌≡◌, List, ℕ, arith}
+use Rattle.std.proofs.Common.{◌≡◌, arith}
 use Rattle.std.proofs.lemmas.List.{get_or_default}
-use Rattle.gor_disk.specs.Disk.{Held, IsImage}
+use Rattle.gor_disk.specs.Disk.{IsImage}
 use Rattle.gor_disk.proofs.Steps.{image_step_by}
 use Rattle.gor_disk.proofs.images.image_files.Goals as goal
 

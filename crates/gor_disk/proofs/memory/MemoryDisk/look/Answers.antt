@@ -1,4 +1,3 @@
-use Rattle.std.proofs.Common.{refl}
 use Rattle.gor_disk.proofs.Replay.{noted, looked, looked_image}
 use Rattle.gor_disk.proofs.memory.MemoryDisk.look.Goals as goal
 
