@@ -1,11 +1,11 @@
 -- The first values stand for the shares of the empty history.
-use Rattle.std.proofs.Common.{◌≡◌, ℕ, zero, suc, List, [], ◌∷◌, length, Bool, true, false, Option, Some, None, refl, sym, ap, ◌∙◌, subst, slice_get}
+use Rattle.std.proofs.Common.{◌≡◌, ℕ, zero, suc, List, [], ◌∷◌, length, Bool, true, false, Some, None, refl, sym, ap, ◌∙◌, subst, inl, arith, slice_get}
 use Rattle.std.specs.Prelude.{option_map, if◌then◌else◌}
 use Rattle.std.specs.Option.{option_or}
 use Rattle.std.specs.Str.{bytes_eq}
-use Rattle.gor_model.specs.declared.start.Row.{Row}
+use Rattle.gor_model.specs.Starts.{IsStart}
 use Rattle.gor_model.specs.PlainMap.{unused_slots, grown_row}
-use Rattle.gor_model.specs.Shares.{Entry, entry_of as entry_of_row, DirectoryShare, device_share, directory_share, series_share, journal_share, OfDevice, OfDirectory, OfSlot, OfJournal}
+use Rattle.gor_model.specs.Shares.{entry_of as entry_of_row, device_share, directory_share, series_share, journal_share, OfDevice, OfDirectory, OfSlot, OfJournal}
 use Rattle.gor_model.specs.AnswersByShares.{weight_by}
 use Rattle.gor_model.specs.Objects.{share_of}
 use Rattle.gor_hall.proofs.Passing.{same_some, none_some}
@@ -17,6 +17,7 @@ use Rattle.gor_plain.specs.declared.parts.Device.{Device}
 use Rattle.gor_plain.specs.declared.plain.Plain.{Plain}
 use Rattle.gor_plain.specs.declared.plain.Plain.TheVariants as plain
 use Rattle.gor_plain.specs.Plains.{entry_of, device_of, directory_of, series_of, journal_of, plain_stands}
+use Rattle.gor_plain.proofs.Putting.{key_a}
 use Rattle.gor_plain.specs.FirstValues.{letter_a, first_row, one_series, AreFirst}
 
 abbrev only : Named
@@ -51,3 +52,11 @@ module _ (d : Device) (index : Directory) (c : Cell) (j : Journal) (device : dev
 
   pub first : (values : List Plain) → values ≡ four → AreFirst values
   first values is = (ap length is, λ o x e. each o x (ap (λ (l : List Plain). slice_get l o) (sym is) ∙ e))
+
+pub one_series_is_start : IsStart one_series
+one_series_is_start = record {
+  floor = inl refl;
+  next = (omega arith, omega arith);
+  rows = (record { keyed = sym key_a; slot = omega arith; uid = (omega arith, omega arith); floor = inl refl; rising = tt; timely = tt; kept = tt }, tt);
+  apart = (tt, tt);
+}

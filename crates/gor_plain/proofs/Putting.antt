@@ -1,6 +1,6 @@
 -- The answer and the shares of a stored put, by the values that it holds.
-use Rattle.std.proofs.Common.{◌≡◌, ℕ, zero, suc, ◌+◌, ◌<◌, ◌≤◌, List, [], ◌∷◌, ◌++◌, length, map, reverse, Bool, true, false, Option, Some, None, refl, sym, ap, ◌∙◌, subst, arith, slice_get}
-use Rattle.std.specs.Prelude.{MatchOption, IfSome, sum_by, nat_lt, nat_le, unwrap_or, if◌then◌else◌, option_map, ⊤}
+use Rattle.std.proofs.Common.{◌≡◌, ℕ, zero, suc, ◌+◌, ◌<◌, ◌≤◌, List, [], ◌∷◌, ◌++◌, length, map, reverse, false, Option, Some, None, refl, sym, ap, ◌∙◌, subst, arith, slice_get}
+use Rattle.std.specs.Prelude.{MatchOption, IfSome, nat_lt, nat_le, unwrap_or, option_map, ⊤}
 use Rattle.std.proofs.lemmas.Bool.{le-ltb, lt-leb}
 use Rattle.std.proofs.lemmas.List.{reverse-append}
 use Rattle.gor_model.specs.declared.point.Point.{Point}
@@ -9,8 +9,7 @@ use Rattle.gor_model.specs.declared.event.Reply.TheVariants as reply
 use Rattle.gor_model.specs.PlainMap.{last_of}
 use Rattle.gor_model.specs.Shares.{JournalShare, SeriesShare}
 use Rattle.gor_model.specs.AnswersByShares.{due_by, put_after_by, put_there_by}
-use Rattle.gor_hall.proofs.Passing.{none_some}
-use Rattle.std.proofs.Common.{◌⊎◌, inl, inr, ⊎_elim}
+use Rattle.std.proofs.Common.{inl, inr, ⊎_elim}
 use Rattle.std.proofs.lemmas.List.Sums.{sum_by-cons}
 use Rattle.std.specs.Str.{IsAscii}
 use Rattle.std.proofs.lemmas.Str.{IsUtf8-from_ascii}

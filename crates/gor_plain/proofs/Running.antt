@@ -1,11 +1,11 @@
 -- Lists of lanes, before and after their work.
-use Rattle.std.proofs.Common.{◌≡◌, ◌⊎◌, ℕ, zero, suc, ◌+◌, ◌<◌, List, [], ◌∷◌, ◌++◌, length, map, reverse, take, refl, sym, ap, ◌∙◌, subst, arith, rules, inl, inr, ⊎_elim, Option, Some, None, slice_get, get_or}
-use Rattle.std.proofs.lemmas.List.{reverse-append, length-map, length-reverse}
+use Rattle.std.proofs.Common.{◌≡◌, ℕ, zero, suc, ◌<◌, List, [], ◌∷◌, ◌++◌, length, map, reverse, take, refl, sym, ap, ◌∙◌, subst, arith, ⊎_elim, Some, slice_get, get_or}
+use Rattle.std.proofs.lemmas.List.{reverse-append}
 use Rattle.std.proofs.lemmas.Option.{slice_get_within, slice_get-get_or, get_or_from_slice_get}
 use Rattle.gor_hall.specs.declared.pass.Pass.{Pass}
 use Rattle.gor_hall.specs.declared.hall.Hall.{Hall}
-use Rattle.gor_hall.specs.Halls.{IsPassOf, IsFirstPass}
-use Rattle.gor_hall.specs.Passes.{held, lane_of}
+use Rattle.gor_hall.specs.Halls.{IsFirstPass}
+use Rattle.gor_hall.specs.Passes.{lane_of}
 use Rattle.gor_hall.proofs.Passing.{get_end, get_longer, get_last, none_some, same_some}
 use Rattle.gor_rule.specs.declared.view.View.{View}
 use Rattle.gor_plain.specs.declared.lanes.Lane.{Lane}

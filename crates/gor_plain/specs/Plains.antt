@@ -1,5 +1,5 @@
 -- When a value that stores a share as data stands for it.
-use Rattle.std.specs.Prelude.{◌≡◌, ℕ, List, map, reverse, find, option_map, Option, Some, None}
+use Rattle.std.specs.Prelude.{◌≡◌, ℕ, map, reverse, find, option_map, Some, None}
 use Rattle.std.specs.Str.{bytes_eq}
 use Rattle.gor_model.specs.declared.start.Start.{Start}
 use Rattle.gor_model.specs.Shares.{Share, OfDevice, OfDirectory, OfSlot, OfJournal, Entry, DirectoryShare, SeriesShare, Besides, OfSeries, Begins, Frees, Nothing, Buffered, JournalShare, SealedSeries, DoneAt, Finished as FinishedShare, DeviceShare}

@@ -10,7 +10,7 @@ use Rattle.gor_model.specs.Answers.{Legal}
 use Rattle.gor_model.specs.PlainMap.{last_of}
 use Rattle.gor_model.specs.Shares.{OfSeries}
 use Rattle.gor_model.specs.SharesAfter.{pushed, journal_with}
-use Rattle.gor_model.specs.AnswersByShares.{weight_by, due_by}
+use Rattle.gor_model.specs.AnswersByShares.{due_by}
 use Rattle.gor_model.specs.Objects.{IsBeginning, share_of}
 use Rattle.gor_rule.specs.declared.view.View.{View}
 use Rattle.gor_rule.specs.Rule.{numbers}

@@ -1,5 +1,4 @@
-use Rattle.std.proofs.Common.{rules, ◌≡◌, ℕ, List, [], length, map, reverse, refl, sym, ap, ◌∙◌}
-use Rattle.gor_hall.specs.declared.pass.Pass.{Pass}
+use Rattle.std.proofs.Common.{rules, ◌≡◌, List, [], length, map, reverse, ap, ◌∙◌}
 use Rattle.gor_plain.specs.declared.lanes.Lane.{Lane}
 use Rattle.gor_plain.specs.Lanes.{pass_of}
 use Rattle.gor_plain.proofs.Running.{all_idle, idle_again, all_covered, taken}

@@ -1,5 +1,4 @@
-use Rattle.std.proofs.Common.{rules, ◌≡◌, ℕ, ◌<◌, length, slice_index_or, subst, sym, ◌∙◌}
-use Rattle.gor_plain.specs.declared.lanes.Lane.{Lane}
+use Rattle.std.proofs.Common.{ℕ, ◌<◌, subst, sym, ◌∙◌}
 use Rattle.gor_plain.proofs.lanes.run_and_look.Goals as goal
 
 pub run_in_place-requires-2-clause-passes : goal.run_in_place-requires-2-clause-passes

@@ -1,4 +1,4 @@
-use Rattle.std.proofs.Common.{rules, ◌≡◌, ℕ, ◌<◌, length, slice_index_or, subst}
+use Rattle.std.proofs.Common.{slice_index_or, subst}
 use Rattle.gor_plain.specs.declared.lanes.Lane.{Lane}
 use Rattle.gor_plain.specs.Lanes.{IsBack}
 use Rattle.gor_plain.proofs.lanes.run_in_place.Goals as goal

@@ -1,4 +1,4 @@
-use Rattle.std.proofs.Common.{◌≡◌, ℕ, ◌+◌, ◌++◌, map, reverse}
+use Rattle.std.proofs.Common.{◌≡◌, ◌+◌, ◌++◌, map, reverse}
 use Rattle.std.specs.Prelude.{vec_len, vec_capacity}
 use Rattle.gor_plain.specs.Lanes.{pass_of}
 use Rattle.gor_plain.proofs.lanes.take_passes.Given as goal

@@ -1,5 +1,5 @@
-use Rattle.std.proofs.Common.{rules, arith, ◌≡◌, sym, ◌∙◌, ℕ, suc, ◌+◌, ◌-◌, ◌<◌, ◌≤◌, length, slice_get, Some}
-use Rattle.gor_plain.proofs.Putting.{above_last, above_none}
+use Rattle.std.proofs.Common.{arith, sym, ◌∙◌, ◌-◌}
+use Rattle.gor_plain.proofs.Putting.{above_last}
 use Rattle.gor_plain.proofs.puts.time_above.Goals as goal
 
 pub returns : goal.returns

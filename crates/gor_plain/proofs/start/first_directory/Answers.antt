@@ -1,4 +1,4 @@
-use Rattle.std.proofs.Common.{rules, ◌≡◌, [], ◌∷◌, IfOk, Some, ap, ◌∙◌}
+use Rattle.std.proofs.Common.{rules}
 use Rattle.gor_plain.proofs.Firsts.{directory_first}
 use Rattle.gor_plain.proofs.start.first_directory.Goals as goal
 
