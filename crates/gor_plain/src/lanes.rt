@@ -12,20 +12,25 @@ use std::sync::Wait;
 use std::thread;
 use std::thread::Threads;
 
-/// A lane's pass, whether it stored all that it was to, and the history's length as it last looked.
+/// A lane with its pass.
 #[derive(Drop)]
 pub struct Lane {
+    /// Its pass.
     pub pass: Pass,
+    /// Whether it stored all that it was to.
     pub all: bool,
+    /// The history's length as it last looked.
     pub length: u64,
 }
 
-/// What a run of all lanes left: the values, whether every put was stored, and the least length that a lane saw once all
-/// had ended.
+/// What a run of all lanes left.
 #[derive(Drop)]
 pub struct Ended {
+    /// The values, in the order of their objects.
     pub values: Vec<Plain>,
+    /// Whether every put was stored.
     pub all: bool,
+    /// The least length that a lane saw once all had ended.
     pub length: u64,
 }
 

@@ -5,11 +5,15 @@ use gor_rule::Thing;
 /// A value that stores its object's share as data, and stands for it.
 #[derive(Drop)]
 pub enum Plain {
+    /// The device.
     Device(Device),
+    /// The directory.
     Directory(Directory),
+    /// The slot of a series.
     Series(Cell),
     /// The slot of no series.
     Vacant,
+    /// The journal.
     Journal(Journal),
 }
 

@@ -25,13 +25,19 @@ use std::sync::Wait;
 /// A put that is stored.
 #[derive(Drop)]
 pub struct StoredPut {
+    /// The lane that makes it.
     pub lane: u32,
+    /// The slot of its series.
     pub slot: u32,
-    /// The name, which is its own key, twice.
+    /// The name as it is spelled.
     pub name: Bytes,
+    /// The name's key.
     pub key: Bytes,
+    /// The point's time, in the store's unit.
     pub time: u64,
+    /// The point's word.
     pub word: u64,
+    /// Whether the weight of what waits reaches the limit with it.
     pub due: bool,
 }
 
