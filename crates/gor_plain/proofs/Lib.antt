@@ -1,0 +1,4 @@
+pub mod Firsts
+pub mod Putting
+pub mod Running
+pub mod Pairs

@@ -1,0 +1,9 @@
+use Rattle.std.proofs.Common.{slice_index_or, subst}
+use Rattle.gor_plain.specs.declared.lanes.Lane.{Lane}
+use Rattle.gor_plain.specs.Lanes.{IsBack}
+use Rattle.gor_plain.proofs.lanes.run_in_place.Goals as goal
+
+pub returns-clause-back : goal.returns-clause-back
+returns-clause-back g c i d low =
+    let t = (c.for_each_mut.ensures i d low).1 in
+    subst (λ (y : Lane). IsBack c.args.hall.now (slice_index_or c.args.lanes.now i d).pass y.pass) t.left (subst (λ (x : Lane). IsBack c.args.hall.now x.pass t.after_call.now.pass) t.argument_is t.call)

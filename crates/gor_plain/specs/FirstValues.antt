@@ -1,0 +1,21 @@
+-- A start with one series, and the values of its objects.
+use Rattle.std.specs.Prelude.{◌≡◌, ℕ, List, [], ◌∷◌, length}
+use Rattle.gor_model.specs.declared.start.Row.{Row}
+use Rattle.gor_model.specs.declared.start.Start.{Start}
+use Rattle.gor_hall.specs.Openings.{AllStand}
+use Rattle.gor_plain.specs.declared.plain.Plain.{Plain}
+use Rattle.gor_plain.specs.Plains.{plain_stands}
+
+-- the name `a`
+abbrev pub letter_a : List ℕ
+letter_a = 97 ∷ []
+
+abbrev pub first_row : Row
+first_row = record { name = letter_a; slot = 0; uid = 1; floor = 0; points = [] }
+
+abbrev pub one_series : Start
+one_series = record { slots = 1; floor = 0; next = 2; rows = (letter_a, first_row) ∷ [] }
+
+-- four values, which stand for the shares of the empty history
+abbrev pub AreFirst : List Plain → Type 0
+AreFirst values = (length values ≡ 4) × AllStand plain_stands one_series values []

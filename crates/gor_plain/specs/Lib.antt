@@ -1,0 +1,4 @@
+pub mod Plains
+pub mod FirstValues
+pub mod Puts
+pub mod Lanes
