@@ -1,0 +1,142 @@
+ghost use Rattle.std.specs.Prelude.{◌≡◌, [], ◌∷◌, ◌++◌, length, slice_get, OnOk, OnErr, IfOk, filter};
+ghost use Rattle.gor_model.specs.Windows.{kept};
+ghost use Rattle.gor_model.specs.Answers.{in_range};
+
+use std::alloc::{AllocError, Global};
+use std::marker::Model;
+
+/// A 64-bit word at a time, in the store's unit since 1970-01-01 00:00:00 UTC. A word is only compared as an unsigned
+/// number; dashboards read it as a double.
+#[derive(Clone, Copy, Debug, PartialEq, Eq)]
+pub struct Point {
+    pub time: u64,
+    pub word: u64,
+}
+
+/// A list of points. Contracts see the list.
+#[derive(Drop)]
+pub struct Points {
+    items: Vec<Point>,
+}
+
+impl Model for Points {
+    ghost use Rattle.std.specs.Prelude.{List};
+    ghost use Rattle.gor_model.specs.declared.point.Point.{Point};
+
+    ghost Value = { List Point };
+
+    ghost view = { λ p. p.items.items };
+}
+
+impl Points {
+    /// No points. It takes no memory.
+    pub fn new(alloc: Global) -> Self
+        ensures { result ≡ [] }
+    {
+        Points {
+            items: Vec::new(alloc),
+        }
+    }
+
+    /// How many points there are.
+    pub fn len(&self) -> usize
+        ensures { result ≡ length self.now }
+    {
+        self.items.len()
+    }
+
+    /// The point at a place from 0; `None` exactly past the end.
+    pub fn get(&self, at: usize) -> Option<Point>
+        ensures { result ≡ slice_get self.now at }
+    {
+        self.items.get(at).copied()
+    }
+
+    /// Adds a point at the end. The list is unchanged where memory is wanting.
+    pub fn push(&mut self, point: Point) -> Result<(), AllocError>
+        ensures ok { OnOk result (self.new ≡ self.old ++ point ∷ []) }
+        ensures err { OnErr result (self.new ≡ self.old) }
+    {
+        self.items.push(point)?;
+        Ok(())
+    }
+}
+
+/// The points of the times `from` to `to`, both included, that are kept under a floor: those at most a day older than it.
+pub fn kept_in_range(
+    alloc: Global,
+    floor: u64,
+    from: u64,
+    to: u64,
+    points: &Points,
+) -> Result<Points, AllocError>
+    ensures { IfOk result (λ found. found ≡ filter (in_range from to) (kept floor points.now)) }
+{
+    let mut found = Points::new(alloc);
+    for point in points.items.iter() {
+        if floor.saturating_sub(point.time) <= 86400 && from <= point.time && point.time <= to {
+            found.push(*point)?;
+        }
+    }
+    Ok(found)
+}
+
+/// The points of the times `from` to `to`, both included, in order.
+pub fn between(alloc: Global, from: u64, to: u64, points: &Points) -> Result<Points, AllocError>
+    ensures { IfOk result (λ found. found ≡ filter (in_range from to) points.now) }
+{
+    let mut found = Points::new(alloc);
+    for point in points.items.iter() {
+        if from <= point.time && point.time <= to {
+            found.push(*point)?;
+        }
+    }
+    Ok(found)
+}
+
+/// A point of a merged list, with the place, from 0, of the list that it came from.
+#[derive(Clone, Copy, Debug, PartialEq, Eq)]
+pub struct Merged {
+    pub place: u32,
+    pub point: Point,
+}
+
+#[cfg(test)]
+mod tests {
+    use super::*;
+
+    fn with(mut points: Points, time: u64, word: u64) -> Result<Points, AllocError>
+        ensures { IfOk result (λ list. list ≡ points ++ record { time = time; word = word } ∷ []) }
+    {
+        points.push(Point { time, word })?;
+        Ok(points)
+    }
+
+    fn two_points(alloc: Global) -> Result<Points, AllocError> {
+        with(with(Points::new(alloc), 7199, 1)?, 7200, 2)
+    }
+
+    #[test]
+    fn a_day_behind_the_floor_is_kept(rt: HostRuntime) -> Result<(), AllocError> {
+        let points = two_points(rt.alloc())?;
+        let found = kept_in_range(rt.alloc(), 93600, 0, 99999, &points)?;
+        assert_eq!(rt; found.len(), 1);
+        assert_eq!(rt;
+            found.get(0),
+            Some(Point {
+                time: 7200,
+                word: 2
+            })
+        );
+        assert_eq!(rt; found.get(1), None);
+        Ok(())
+    }
+
+    #[test]
+    fn a_range_has_both_its_ends(rt: HostRuntime) -> Result<(), AllocError> {
+        let points = two_points(rt.alloc())?;
+        let found = between(rt.alloc(), 7199, 7200, &points)?;
+        assert_eq!(rt; found.len(), 2);
+        Ok(())
+    }
+}

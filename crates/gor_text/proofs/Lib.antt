@@ -1,0 +1,4 @@
+pub mod Words
+pub mod NameLists
+pub mod Lanes
+pub mod Lines

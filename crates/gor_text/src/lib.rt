@@ -1,0 +1,20 @@
+//! The text of a run: workload lines in, answer lines out.
+//!
+//! `read_workload` gives the phases that a text says, or the first line that says nothing. `write_answer` writes the line of
+//! an answer. The grammar of the lines stands in `specs/Grammar.antt`, by cases on their bytes; which answers a line may have
+//! and which text answers a workload in `specs/LineAnswers.antt` and `specs/Transcripts.antt`.
+#![tactic(auto)]
+
+pub mod accept;
+pub mod answer;
+pub mod fields;
+pub mod item;
+pub mod reader;
+//pub mod spelling;
+pub mod workload;
+
+pub use accept::{Accepts, EveryLine};
+pub use answer::{LaneAnswer, Reason, What};
+pub use reader::TextFault;
+//pub use spelling::write_answer;
+pub use workload::{Item, Line, Names, Phase, Workload};
