@@ -1,5 +1,5 @@
 -- Bytes as bits.
-use Rattle.std.proofs.Common.{◌≡◌, ℕ, zero, suc, ◌+◌, ◌-◌, ◌*◌, ◌/◌, ◌%◌, ◌^◌, ◌<◌, ◌≤◌, List, [], ◌∷◌, ◌++◌, length, take, drop, replicate, get_or, Bool, true, false, refl, ap, ap₂, sym, ◌∙◌, arith, append_assoc, length-append, inl, inr, min, length-drop, length-take-le}
+use Rattle.std.proofs.Common.{◌≡◌, ℕ, zero, suc, ◌+◌, ◌-◌, ◌*◌, ◌/◌, ◌^◌, ◌<◌, ◌≤◌, List, [], ◌∷◌, ◌++◌, length, take, drop, replicate, get_or, Bool, false, refl, ap, ap₂, sym, ◌∙◌, arith, append_assoc, length-append, inl, inr, min, length-drop, length-take-le}
 use Rattle.std.specs.Int.{bytes_high_first, byte_at, w64, to_be_bytes, from_be_bytes}
 use Rattle.std.proofs.Math.Nat.{pow-suc}
 use Rattle.std.proofs.lemmas.List.{append-nil, take_all, drop_all, take-append-le, take-replicate, drop-replicate, replicate-append-replicate, length-replicate}

@@ -1,5 +1,5 @@
 -- Bytes that hold some bits and zero bits behind them.
-use Rattle.std.proofs.Common.{◌≡◌, ℕ, zero, suc, ◌+◌, ◌-◌, ◌*◌, ◌/◌, ◌%◌, ◌^◌, ◌<◌, ◌≤◌, List, [], ◌∷◌, ◌++◌, length, take, drop, replicate, Bool, true, false, refl, ap, ap₂, sym, ◌∙◌, arith, append_assoc, length-append, length-drop, length-take-le}
+use Rattle.std.proofs.Common.{◌≡◌, ℕ, ◌+◌, ◌-◌, ◌*◌, ◌^◌, ◌<◌, ◌≤◌, List, ◌++◌, length, take, drop, replicate, Bool, false, refl, ap, ap₂, sym, ◌∙◌, arith, append_assoc, length-append, length-drop, length-take-le}
 use Rattle.std.proofs.lemmas.List.{append-nil, take_all, drop_all, take_at, take-append-le, drop-append-le, take-take, drop-replicate, length-replicate, replicate-append-replicate}
 use Rattle.gor_bits.specs.Spelled.{spelled, bits_of, overwritten, IsPacked}
 use Rattle.gor_bits.specs.BitString.{IsHeld}

@@ -1,6 +1,6 @@
 -- Pieces of bit lists that lie within one word.
-use Rattle.std.proofs.Common.{◌≡◌, ℕ, zero, suc, ◌+◌, ◌-◌, ◌*◌, ◌/◌, ◌%◌, ◌^◌, ◌<◌, ◌≤◌, List, [], ◌∷◌, ◌++◌, length, take, drop, replicate, get_or, Bool, true, false, refl, ap, ap₂, sym, ◌∙◌, arith, append_assoc, add_assoc, length-append, inl, inr, min, length-drop, length-take, length-take-le}
-use Rattle.std.proofs.lemmas.List.{append-nil, take_all, drop_all, take_at, drop_at, take-append-le, take-take, drop-drop, drop-take, same_lists, places, take-append-drop, drop-append-le}
+use Rattle.std.proofs.Common.{◌≡◌, ℕ, ◌+◌, ◌-◌, ◌≤◌, List, ◌++◌, length, take, drop, Bool, refl, ap, ap₂, sym, ◌∙◌, arith, append_assoc, add_assoc, length-append, inl, inr, length-drop, length-take-le}
+use Rattle.std.proofs.lemmas.List.{append-nil, take_all, drop_all, take_at, take-append-le, take-take, drop-drop, drop-take, take-append-drop, drop-append-le}
 use Rattle.std.proofs.lemmas.Bool.{cases_lt}
 use Rattle.gor_bits.specs.Spelled.{overwritten}
 use Rattle.gor_bits.proofs.ByteBits.{take_past, drop_past}

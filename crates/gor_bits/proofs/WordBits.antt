@@ -1,5 +1,5 @@
 -- The words of the code, as the numbers that the lemmas on spellings speak of.
-use Rattle.std.proofs.Common.{◌≡◌, ℕ, zero, suc, ◌+◌, ◌-◌, ◌*◌, ◌/◌, ◌%◌, ◌^◌, ◌<◌, ◌≤◌, List, [], length, take, drop, replicate, Bool, true, false, refl, ap, ap₂, sym, ◌∙◌, arith, inl, inr, length-drop}
+use Rattle.std.proofs.Common.{◌≡◌, ℕ, ◌+◌, ◌-◌, ◌*◌, ◌/◌, ◌%◌, ◌^◌, ◌<◌, ◌≤◌, List, [], length, take, drop, replicate, Bool, false, ap, ap₂, sym, ◌∙◌, arith, inl, inr, length-drop}
 use Rattle.std.specs.Prelude.{if◌then◌else◌, nat_lt, bit_or, ◌++◌}
 use Rattle.std.proofs.Math.Nat.{div-eq_of_lt, mod-lt}
 use Rattle.std.proofs.lemmas.Nat.{pow-add, pow_pos, one_shl, or_shifted, shl_whole, shr_below, mul-add-lt, mod_below}

@@ -229,8 +229,10 @@ mod tests {
         bytes.push(0xf0)?;
         bytes.push(0x3c)?;
         let mut bits = Bits::of_bytes(bytes);
+        assert_eq!(rt; bits.len(), 16);
         bits.overwrite(6, 4, 0b1011);
         assert_eq!(rt; bits.as_bytes(), [0xf2, 0xfc].as_slice());
+        assert_eq!(rt; bits.len(), 16);
         bits.truncate(7);
         assert_eq!(rt; bits.as_bytes(), [0xf2].as_slice());
         assert!(rt; !bits.is_empty());

@@ -1,7 +1,7 @@
-use Rattle.std.proofs.Common.{◌≡◌, ℕ, List, Bool, ◌+◌, ◌-◌, ◌*◌, ◌/◌, ◌%◌, ◌≤◌, ◌<◌, ◌++◌, length, take, ap, ap₂, sym, ◌∙◌, arith, refl, length-take-le}
-use Rattle.std.proofs.lemmas.List.{take-take, take_all}
-use Rattle.gor_bits.specs.Spelled.{bits_of, spelled, overwritten, IsPacked}
-use Rattle.gor_bits.proofs.ByteBits.{length-bits_of, bits_of-take}
+use Rattle.std.proofs.Common.{◌≡◌, ℕ, List, ◌+◌, ◌-◌, ◌*◌, ◌%◌, length, take, ap, ◌∙◌, arith, length-take-le}
+use Rattle.std.proofs.lemmas.List.{take-take}
+use Rattle.gor_bits.specs.Spelled.{bits_of, spelled, overwritten}
+use Rattle.gor_bits.proofs.ByteBits.{bits_of-take}
 use Rattle.gor_bits.proofs.Packed.{packed_cut, packed_whole}
 use Rattle.gor_bits.proofs.bytes.cut.Goals as goal
 

@@ -1,4 +1,4 @@
-use Rattle.std.proofs.Common.{◌≡◌, ℕ, List, ◌++◌, length, drop, replicate, ap, ◌∙◌, arith, rules}
+use Rattle.std.proofs.Common.{ℕ, List, ◌++◌, length, drop, replicate, ap, ◌∙◌, arith}
 use Rattle.std.specs.Int.{from_be_bytes, w64}
 use Rattle.gor_bits.proofs.ByteBits.{first_eight, front_word, padded_word}
 use Rattle.gor_bits.proofs.bytes.first_word.Goals as goal

@@ -1,5 +1,5 @@
-use Rattle.std.proofs.Common.{◌≡◌, ℕ, ◌+◌, ◌-◌, ◌%◌, arith}
-use Rattle.gor_bits.specs.Spelled.{bits_of, Stands}
+use Rattle.std.proofs.Common.{◌≡◌, ◌+◌, ◌-◌, ◌%◌, arith}
+use Rattle.gor_bits.specs.Spelled.{bits_of}
 use Rattle.gor_bits.proofs.WordBits.{stands_twice}
 use Rattle.gor_bits.proofs.bytes.number_at.Goals as goal
 

@@ -1,4 +1,4 @@
-use Rattle.std.proofs.Common.{List, ℕ, ◌≡◌, length, ap, ◌∙◌, rules, arith}
+use Rattle.std.proofs.Common.{List, ℕ, ap, ◌∙◌, rules}
 use Rattle.std.proofs.lemmas.List.{with_items_is}
 use Rattle.gor_bits.specs.Spelled.{bits_of, spelled, overwritten}
 use Rattle.gor_bits.proofs.bytes.overwrite.Goals as goal

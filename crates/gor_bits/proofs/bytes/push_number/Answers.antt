@@ -1,5 +1,5 @@
-use Rattle.std.proofs.Common.{◌≡◌, ℕ, List, Bool, ◌+◌, ◌-◌, ◌*◌, ◌/◌, ◌≤◌, ◌<◌, ◌++◌, length, take, replicate, ap, ap₂, sym, ◌∙◌, arith, refl, length-append, length-take-le}
-use Rattle.gor_bits.specs.Spelled.{bits_of, spelled, overwritten, IsPacked}
+use Rattle.std.proofs.Common.{◌≡◌, ℕ, List, ◌+◌, ◌-◌, ◌*◌, ◌≤◌, ◌<◌, ◌++◌, length, take, replicate, ap₂, sym, ◌∙◌, arith, refl, length-take-le}
+use Rattle.gor_bits.specs.Spelled.{bits_of, spelled, overwritten}
 use Rattle.gor_bits.proofs.ByteBits.{length-bits_of}
 use Rattle.gor_bits.proofs.Words.{length-spelled}
 use Rattle.gor_bits.proofs.Packed.{packed_push}

@@ -1,4 +1,4 @@
-use Rattle.std.proofs.Common.{◌≡◌, ℕ, List, Bool, ◌+◌, ◌-◌, ◌*◌, ◌/◌, ◌%◌, ◌^◌, ◌<◌, ap, ap₂, sym, ◌∙◌, arith}
+use Rattle.std.proofs.Common.{◌≡◌, List, Bool, ◌+◌, ◌-◌, ◌*◌, ◌%◌, ◌^◌, ap, ap₂, ◌∙◌, arith}
 use Rattle.std.proofs.lemmas.Nat.{shr_below, one_shl}
 use Rattle.gor_bits.specs.Spelled.{bits_of, spelled, overwritten}
 use Rattle.gor_bits.proofs.ByteBits.{length-bits_of}

@@ -1,4 +1,4 @@
-use Rattle.std.proofs.Common.{◌≡◌, ◌+◌, ◌-◌, ◌<◌, ◌^◌, ap, ◌∙◌, arith}
+use Rattle.std.proofs.Common.{◌≡◌, ◌+◌, ◌-◌, ap, ◌∙◌, arith}
 use Rattle.gor_bits.specs.Spelled.{spelled}
 use Rattle.gor_bits.proofs.Words.{word_with}
 use Rattle.gor_bits.proofs.WordBits.{word_is}

@@ -1,5 +1,4 @@
-use Rattle.std.proofs.Common.{List, ℕ, ◌≡◌, [], refl, sym, arith}
-use Rattle.gor_bits.specs.Spelled.{bits_of, IsPacked}
+use Rattle.std.proofs.Common.{◌≡◌, [], refl, arith}
 use Rattle.gor_bits.proofs.Packed.{packed_whole}
 use Rattle.gor_bits.proofs.bits.Bits.new.Goals as goal
 

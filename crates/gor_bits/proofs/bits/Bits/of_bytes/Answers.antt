@@ -1,6 +1,6 @@
-use Rattle.std.proofs.Common.{List, ℕ, ◌≡◌, ◌≤◌, ◌*◌, length, take, refl, sym, ap, arith}
+use Rattle.std.proofs.Common.{◌*◌, ap, arith}
 use Rattle.std.proofs.lemmas.List.{take_all}
-use Rattle.gor_bits.specs.Spelled.{bits_of, IsPacked}
+use Rattle.gor_bits.specs.Spelled.{bits_of}
 use Rattle.gor_bits.specs.BitString.{BitString}
 use Rattle.gor_bits.proofs.ByteBits.{length-bits_of}
 use Rattle.gor_bits.proofs.Packed.{packed_whole}

@@ -1,5 +1,5 @@
-use Rattle.std.proofs.Common.{List, Bool, ℕ, ◌≡◌, ◌+◌, ◌*◌, ◌≤◌, length, take, ap, ap₂, sym, ◌∙◌, arith, length-take-le}
-use Rattle.gor_bits.specs.Spelled.{bits_of, spelled, overwritten, IsPacked}
+use Rattle.std.proofs.Common.{List, Bool, ℕ, ◌≡◌, ◌+◌, ◌≤◌, length, take, ap, ◌∙◌, arith, length-take-le}
+use Rattle.gor_bits.specs.Spelled.{bits_of, spelled, overwritten}
 use Rattle.gor_bits.specs.BitString.{BitString}
 use Rattle.gor_bits.proofs.ByteBits.{length-bits_of}
 use Rattle.gor_bits.proofs.Words.{length-spelled}

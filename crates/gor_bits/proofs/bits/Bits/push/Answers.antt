@@ -1,4 +1,4 @@
-use Rattle.std.proofs.Common.{ℕ, List, Bool, ◌≡◌, ◌+◌, ◌-◌, ◌≤◌, ◌^◌, ◌++◌, length, max, ap, arith, length-append}
+use Rattle.std.proofs.Common.{ℕ, ◌≡◌, ◌+◌, ◌-◌, ◌≤◌, ◌^◌, ◌++◌, length, max, ap, arith, length-append}
 use Rattle.gor_bits.specs.Spelled.{spelled}
 use Rattle.gor_bits.specs.BitString.{BitString}
 use Rattle.gor_bits.proofs.Words.{length-spelled}

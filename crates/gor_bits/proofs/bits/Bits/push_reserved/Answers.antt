@@ -1,4 +1,4 @@
-use Rattle.std.proofs.Common.{List, Bool, ℕ, ◌≡◌, ◌+◌, ◌-◌, ◌*◌, ◌≤◌, ◌++◌, length, take, ap, sym, ◌∙◌, arith, length-append, length-take-le}
+use Rattle.std.proofs.Common.{List, Bool, ℕ, ◌≡◌, ◌+◌, ◌-◌, ◌++◌, length, take, ap, ◌∙◌, arith, length-append, length-take-le}
 use Rattle.gor_bits.specs.Spelled.{bits_of, spelled}
 use Rattle.gor_bits.specs.BitString.{BitString}
 use Rattle.gor_bits.proofs.ByteBits.{length-bits_of}
