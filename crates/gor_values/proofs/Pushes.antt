@@ -1,5 +1,5 @@
 -- Numbers pushed one after another.
-use Rattle.std.proofs.Common.{◌≡◌, ℕ, zero, suc, ◌+◌, ◌-◌, ◌/◌, ◌%◌, List, [], ◌∷◌, ◌++◌, length, Bool, true, false, refl, ap, ap₂, sym, ◌∙◌, arith, append_assoc, length-append}
+use Rattle.std.proofs.Common.{◌≡◌, ℕ, zero, suc, ◌-◌, ◌/◌, ◌%◌, List, [], ◌∷◌, ◌++◌, length, Bool, refl, ap, ap₂, sym, ◌∙◌, arith, append_assoc, length-append}
 use Rattle.std.specs.Prelude.{nat_eq}
 use Rattle.gor_bits.specs.BitString.{BitString}
 use Rattle.gor_bits.specs.Spelled.{spelled}

@@ -1,6 +1,7 @@
 //! The word code of a block.
 //!
-//! - `state`: [`ValueState`], which writes the words of a block one after another.
+//! - `state`: [`ValueState`], which writes and reads the words of a block one after another.
+//! - `change`: what changed in a word, as it is read.
 //! - `window`: the part of a changed word that a code stores.
 //! - `fault`: [`ValueFault`], why no word stands at a place.
 //!
@@ -9,6 +10,7 @@
 //! the rules for the value window are this project's own.
 #![tactic(auto)]
 
+mod change;
 mod fault;
 mod state;
 mod window;

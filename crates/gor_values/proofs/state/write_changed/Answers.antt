@@ -1,6 +1,6 @@
-use Rattle.std.proofs.Common.{◌≡◌, ℕ, List, [], ◌∷◌, ◌++◌, ◌-◌, ◌/◌, ◌%◌, ◌^◌, Bool, true, false, refl, ap, ap₂, sym, ◌∙◌, arith}
-use Rattle.std.specs.Prelude.{Option, Some, None}
-use Rattle.gor_model.specs.Codes.{bits, ValueWindow, changed_code, fitting_code, new_code, window_for, stored_bits, fits}
+use Rattle.std.proofs.Common.{◌≡◌, [], ◌∷◌, ◌++◌, ◌-◌, ◌/◌, ◌%◌, ◌^◌, true, false, ap, ap₂, sym, ◌∙◌}
+use Rattle.std.specs.Prelude.{Some}
+use Rattle.gor_model.specs.Codes.{bits, ValueWindow, changed_code, new_code, window_for, stored_bits, fits}
 use Rattle.gor_values.specs.Words.{window_shown}
 use Rattle.gor_values.proofs.Pushes.{follows, follows_twice, follows_as}
 use Rattle.gor_values.proofs.WordLaws.{changed_zero, changed_fits, changed_new}

@@ -1,4 +1,4 @@
-use Rattle.std.proofs.Common.{◌≡◌, ℕ, List, Bool, true, false, refl, ap, ap₂, sym, ◌∙◌}
+use Rattle.std.proofs.Common.{◌≡◌, ℕ, Bool, true, false, refl, ap, ap₂, sym, ◌∙◌}
 use Rattle.std.specs.Prelude.{Option, bit_xor}
 use Rattle.gor_model.specs.Codes.{bits, ValueWindow, changed_code}
 use Rattle.gor_values.specs.Words.{ValueMark, window_shown, next_code}

@@ -1,5 +1,5 @@
-use Rattle.std.proofs.Common.{◌+◌, ◌-◌, ◌≤◌, arith}
-use Rattle.std.specs.Int.Count.{count_leading_zeros, count_trailing_zeros}
+use Rattle.std.proofs.Common.{◌-◌, arith}
+use Rattle.std.specs.Int.Count.{count_trailing_zeros}
 use Rattle.gor_values.proofs.WordLaws.{word_below, piece_fits, zeros_apart}
 use Rattle.gor_values.proofs.window.Window.of.Goals as goal
 
