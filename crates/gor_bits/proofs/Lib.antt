@@ -1,0 +1,5 @@
+pub mod ByteBits
+pub mod Packed
+pub mod Pieces
+pub mod WordBits
+pub mod Words

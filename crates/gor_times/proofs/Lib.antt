@@ -1,0 +1,4 @@
+pub mod Codes
+pub mod Fields
+pub mod Readings
+pub mod TimeLaws

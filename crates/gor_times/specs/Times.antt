@@ -1,0 +1,78 @@
+-- Times behind a running state: what a block's times so far leave for the next one.
+use Rattle.std.specs.Prelude.{◌≡◌, ◌≢◌, ℕ, ◌+◌, ◌-◌, ◌*◌, ◌<◌, ◌≤◌, List, [], ◌∷◌, length, Bool, true, false, if◌then◌else◌}
+use Rattle.gor_model.specs.declared.unit.Unit.{Unit as TimeUnit}
+use Rattle.gor_model.specs.Windows.{window_length}
+use Rattle.gor_model.specs.Codes.{bits, Begins, time_code, first_width}
+use Rattle.gor_times.specs.declared.fault.TimeFault.{TimeFault}
+use Rattle.gor_times.specs.declared.fault.TimeFault.TheVariants.{Short, Spelling, Order}
+use Rattle.gor_times.specs.Changes.{IsShort, IsLonger, IsChange}
+
+-- the unit and the window, whether a time stands, the last one and its difference; before a first time the start of the
+-- window and 0 stand for the last two
+pub record TimeMark : Type 0 where
+  pub unit : TimeUnit
+  pub window : ℕ
+  pub begun : Bool
+  pub last : ℕ
+  pub difference : ℕ
+
+-- the last time and its difference lie in the window
+pub record IsInside (m : TimeMark) : Type 0 where
+  pub after_start : m.window * window_length m.unit ≤ m.last
+  pub before_end : m.last < (m.window + 1) * window_length m.unit
+  pub change : m.difference ≤ m.last - m.window * window_length m.unit
+
+abbrev pub first_mark : TimeUnit → ℕ → TimeMark
+first_mark u w = record { unit = u; window = w; begun = false; last = w * window_length u; difference = 0 }
+
+abbrev pub mark_after : TimeMark → ℕ → TimeMark
+mark_after m time = record { unit = m.unit; window = m.window; begun = true; last = time; difference = time - m.last }
+
+-- the mark after some times, the last of them first
+abbrev pub mark_of : TimeUnit → ℕ → List ℕ → TimeMark
+mark_of u w [] = first_mark u w
+mark_of u w (time ∷ older) = mark_after (mark_of u w older) time
+
+-- the code of the next time
+abbrev pub next_code : TimeMark → ℕ → List Bool
+next_code m time = if m.begun then time_code m.difference (time - m.last) else bits (first_width m.unit) (time - m.last)
+
+-- a time may stand next: it lies in the window, and is later than the last one
+pub record IsNext (m : TimeMark) (time : ℕ) : Type 0 where
+  pub starts : m.last ≤ time
+  pub rises : m.begun ≡ true → m.last < time
+  pub ends : time < (m.window + 1) * window_length m.unit
+
+-- the code of a next time stands at a place of these bits, and the next place and state follow
+pub record IsTimeAt (m : TimeMark) (rest : List Bool) (at time next : ℕ) (after : TimeMark) : Type 0 where
+  pub allowed : IsNext m time
+  pub begins : Begins (next_code m time) rest
+  pub place : next ≡ at + length (next_code m time)
+  pub within : length (next_code m time) ≤ length rest
+  pub state : after ≡ mark_after m time
+
+-- a whole code stands there, but no time that may stand next has it
+pub record IsNoNext (m : TimeMark) (rest : List Bool) : Type 0 where
+  pub value : ℕ
+  pub low : ℕ
+  pub size : ℕ
+  pub change : IsChange rest value low size
+  pub none : (time : ℕ) → IsNext m time → m.difference + value ≢ time - m.last + low
+
+pub record IsNoFirst (m : TimeMark) (rest : List Bool) : Type 0 where
+  pub whole : first_width m.unit ≤ length rest
+  pub none : (time : ℕ) → IsNext m time → Begins (bits (first_width m.unit) (time - m.last)) rest → ⊥
+
+-- why no time stands there, behind other times and as a first one
+abbrev pub IsFaultBehind : TimeMark → ℕ → List Bool → TimeFault → Type 0
+IsFaultBehind m at rest (Short place) = (place ≡ at) × IsShort rest
+IsFaultBehind m at rest (Spelling place) = (place ≡ at) × IsLonger rest
+IsFaultBehind m at rest (Order place) = (place ≡ at) × IsNoNext m rest
+
+abbrev pub IsFirstFault : TimeMark → ℕ → List Bool → TimeFault → Type 0
+IsFirstFault m at rest (Short place) = (place ≡ at) × (length rest < first_width m.unit)
+IsFirstFault m at rest (Spelling place) = ⊥
+IsFirstFault m at rest (Order place) = (place ≡ at) × IsNoFirst m rest
+
+abbrev pub IsTimeFault : TimeMark → ℕ → List Bool → TimeFault → Type 0
+IsTimeFault m at rest fault = (m.begun ≡ true → IsFaultBehind m at rest fault) × (m.begun ≡ false → IsFirstFault m at rest fault)

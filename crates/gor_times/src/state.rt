@@ -1,0 +1,159 @@
+ghost use Rattle.std.specs.Prelude.{◌≡◌, ℕ, ◌+◌, ◌-◌, ◌*◌, ◌^◌, ◌<◌, ◌≤◌, ◌++◌, length, drop, true, false, IsTrue, IfOk, IfErr};
+ghost use Rattle.gor_bits.specs.BitString.{BitString};
+ghost use Rattle.gor_model.specs.Windows.{window_length};
+ghost use Rattle.gor_model.specs.Codes.{first_width};
+ghost use Rattle.gor_times.specs.Times.{TimeMark, IsInside, IsNext, IsTimeAt, IsTimeFault, IsFirstFault, IsFaultBehind, first_mark, mark_after, next_code};
+
+use crate::change::{read_change, write_change};
+use crate::fault::TimeFault;
+use gor_bits::Bits;
+use gor_model::Unit;
+use std::marker::Model;
+
+/// What the times of a block so far leave for the next one.
+#[derive(Drop)]
+pub struct TimeState {
+    unit: Unit,
+    window: u32,
+    begun: bool,
+    last: u64,
+    difference: u64,
+}
+
+impl Model for TimeState {
+    ghost use Rattle.gor_times.specs.Times.{TimeMark, IsInside};
+
+    ghost Value = { TimeMark };
+
+    ghost view = { λ s. record { unit = s.unit; window = s.window; begun = s.begun; last = s.last; difference = s.difference } };
+
+    ghost invariant = { λ s. IsInside (record { unit = s.unit; window = s.window; begun = s.begun; last = s.last; difference = s.difference }) };
+}
+
+/// The times in a window: 7,200 seconds.
+fn length_of(unit: Unit) -> u64
+    ensures value { result ≡ window_length unit }
+    ensures some { 0 < result }
+    ensures few { result ≤ 7200000 }
+{
+    7200 * unit.per_second()
+}
+
+/// The bits of a first time.
+fn width_of(unit: Unit) -> u32
+    ensures value { result ≡ first_width unit }
+    ensures fits { window_length unit ≤ 2 ^ result }
+    ensures some { 1 ≤ result }
+    ensures few { result ≤ 24 }
+    ensures below { 2 ^ result ≤ 16777216 }
+{
+    match unit {
+        Unit::Second => 14,
+        Unit::Milli => 24,
+    }
+}
+
+impl TimeState {
+    /// The state of a block of this window that has no time yet. `window` counts two hours from time 0.
+    pub fn new(unit: Unit, window: u32) -> TimeState
+        ensures { result ≡ first_mark unit window }
+    {
+        TimeState {
+            unit,
+            window,
+            begun: false,
+            last: window as u64 * length_of(unit),
+            difference: 0,
+        }
+    }
+
+    /// Writes the code of `time` behind the bits. It takes no memory.
+    pub fn write(&mut self, bits: &mut Bits, time: u64)
+        requires room { 36 ≤ bits.old.spare }
+        requires next { IsNext self.old time }
+        ensures state { self.new ≡ mark_after self.old time }
+        ensures bits { bits.new ≡ record { bits = bits.old.bits ++ next_code self.old time; spare = bits.old.spare - length (next_code self.old time) } }
+    {
+        let difference = time - self.last;
+        if self.begun {
+            write_change(bits, self.difference, difference);
+        } else {
+            bits.push_reserved(width_of(self.unit), difference);
+        }
+        self.begun = true;
+        self.last = time;
+        self.difference = difference;
+    }
+
+    /// The time whose code stands at `at`, the place behind the code and the state after it. It takes no memory.
+    ///
+    /// A fault comes exactly where no such code stands; it is the first that holds, at the code's first bit.
+    pub fn read(&self, bits: &Bits, at: usize) -> Result<(u64, usize, TimeState), TimeFault>
+        ensures ok { IfOk result (λ read. IsTimeAt self.now (drop at bits.now.bits) at read.0 read.1 read.2) }
+        ensures err { IfErr result (IsTimeFault self.now at (drop at bits.now.bits)) }
+    {
+        if self.begun {
+            self.read_behind(bits, at)
+        } else {
+            self.read_first(bits, at)
+        }
+    }
+
+    fn read_first(&self, bits: &Bits, at: usize) -> Result<(u64, usize, TimeState), TimeFault>
+        requires { self.now.begun ≡ false }
+        ensures ok { IfOk result (λ read. IsTimeAt self.now (drop at bits.now.bits) at read.0 read.1 read.2) }
+        ensures err { IfErr result (IsFirstFault self.now at (drop at bits.now.bits)) }
+    {
+        let _len = bits.len();
+        let width = width_of(self.unit);
+        let Some(place) = bits.get(at, width) else {
+            return Err(TimeFault::Short { at });
+        };
+        let end = self.end();
+        let time = self.last + place;
+        if time >= end {
+            return Err(TimeFault::Order { at });
+        }
+        Ok((time, at + width as usize, self.after(time)))
+    }
+
+    fn read_behind(&self, bits: &Bits, at: usize) -> Result<(u64, usize, TimeState), TimeFault>
+        requires { self.now.begun ≡ true }
+        ensures ok { IfOk result (λ read. IsTimeAt self.now (drop at bits.now.bits) at read.0 read.1 read.2) }
+        ensures err { IfErr result (IsFaultBehind self.now at (drop at bits.now.bits)) }
+    {
+        let _len = bits.len();
+        let change = read_change(bits, at)?;
+        let raised = self.difference + change.value;
+        if raised <= change.low {
+            return Err(TimeFault::Order { at });
+        }
+        let time = self.last + (raised - change.low);
+        if time >= self.end() {
+            return Err(TimeFault::Order { at });
+        }
+        Ok((time, at + change.size, self.after(time)))
+    }
+
+    /// The first time behind the window.
+    fn end(&self) -> u64
+        ensures value { result ≡ (self.now.window + 1) * window_length self.now.unit }
+        ensures limit { result < 2 ^ 60 }
+    {
+        (self.window as u64 + 1) * length_of(self.unit)
+    }
+
+    /// The state behind one more time.
+    fn after(&self, time: u64) -> TimeState
+        requires { IsNext self.now time }
+        ensures { result ≡ mark_after self.now time }
+    {
+        TimeState {
+            unit: self.unit,
+            window: self.window,
+            begun: true,
+            last: time,
+            difference: time - self.last,
+        }
+    }
+}

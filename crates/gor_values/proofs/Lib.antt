@@ -1,0 +1,4 @@
+pub mod Marks
+pub mod Pushes
+pub mod Readings
+pub mod WordLaws

@@ -1,0 +1,87 @@
+-- Words behind a running state: what a block's words so far leave for the next one.
+use Rattle.std.specs.Prelude.{◌≡◌, ℕ, ◌+◌, ◌-◌, ◌*◌, ◌%◌, ◌<◌, ◌≤◌, ◌^◌, List, [], ◌∷◌, ◌++◌, length, Bool, true, false, bit_xor, Option, None, Some, if◌then◌else◌}
+use Rattle.gor_model.specs.Codes.{bits, Begins, ValueWindow, window_after, window_for, fits, changed_code}
+use Rattle.gor_values.specs.declared.fault.ValueFault.{ValueFault}
+use Rattle.gor_values.specs.declared.fault.ValueFault.TheVariants.{Short, Spelling}
+use Rattle.gor_values.specs.declared.window.Window.{Window}
+
+-- whether a word stands, the last one, and the value window
+pub record ValueMark : Type 0 where
+  pub begun : Bool
+  pub last : ℕ
+  pub window : Option ValueWindow
+
+abbrev pub window_shown : Option Window → Option ValueWindow
+window_shown None = None
+window_shown (Some w) = Some (record { lead = w.lead; len = w.len })
+
+abbrev pub first_mark : ValueMark
+first_mark = record { begun = false; last = 0; window = None }
+
+abbrev pub mark_after : ValueMark → ℕ → ValueMark
+mark_after m word = record { begun = true; last = word; window = if m.begun then window_after (bit_xor word m.last) m.window else m.window }
+
+-- the mark after some words, the last of them first
+abbrev pub mark_of : List ℕ → ValueMark
+mark_of [] = first_mark
+mark_of (word ∷ older) = mark_after (mark_of older) word
+
+-- the code of the next word
+abbrev pub next_code : ValueMark → ℕ → List Bool
+next_code m word = if m.begun then changed_code m.window (bit_xor word m.last) else bits 64 word
+
+-- ---- reading
+
+-- the bits behind `10` end within their form
+abbrev pub HeldEnds : Option ValueWindow → List Bool → Type 0
+HeldEnds None rest = ⊥
+HeldEnds (Some w) rest = length rest < 2 + w.len
+
+-- whatever form begins these bits, they end within it
+pub record IsShort (w : Option ValueWindow) (rest : List Bool) : Type 0 where
+  pub zero : Begins (false ∷ []) rest → ⊥
+  pub held : Begins (true ∷ false ∷ []) rest → HeldEnds w rest
+  pub made : (lead len : ℕ) → lead < 32 → 1 ≤ len → len ≤ 64 → Begins ((true ∷ true ∷ []) ++ bits 5 lead ++ bits 6 (len % 64)) rest → length rest < 13 + len
+
+-- a whole form stands there, and no word's code does
+pub record IsWrong (w : Option ValueWindow) (rest : List Bool) : Type 0 where
+  pub whole : IsShort w rest → ⊥
+  pub none : (x : ℕ) → x < 2 ^ 64 → Begins (changed_code w x) rest → ⊥
+
+-- the code of a change stands there, and takes so many bits
+pub record IsChanged (w : Option ValueWindow) (rest : List Bool) (x size : ℕ) : Type 0 where
+  pub small : x < 2 ^ 64
+  pub begins : Begins (changed_code w x) rest
+  pub long : length (changed_code w x) ≡ size
+  pub within : size ≤ length rest
+
+-- why no code of a change stands there
+abbrev pub IsNoChange : Option ValueWindow → ℕ → List Bool → ValueFault → Type 0
+IsNoChange w at rest (Short place) = (place ≡ at) × IsShort w rest
+IsNoChange w at rest (Spelling place) = (place ≡ at) × IsWrong w rest
+
+-- why no first word stands there
+abbrev pub IsFirstFault : ℕ → List Bool → ValueFault → Type 0
+IsFirstFault at rest (Short place) = (place ≡ at) × (length rest < 64)
+IsFirstFault at rest (Spelling place) = ⊥
+
+abbrev pub IsValueFault : ValueMark → ℕ → List Bool → ValueFault → Type 0
+IsValueFault m at rest fault = (m.begun ≡ true → IsNoChange m.window at rest fault) × (m.begun ≡ false → IsFirstFault at rest fault)
+
+-- the code of a next word stands at a place of these bits, and the next place and state follow
+pub record IsWordAt (m : ValueMark) (rest : List Bool) (at word next : ℕ) (after : ValueMark) : Type 0 where
+  pub small : word < 2 ^ 64
+  pub begins : Begins (next_code m word) rest
+  pub place : next ≡ at + length (next_code m word)
+  pub within : length (next_code m word) ≤ length rest
+  pub state : after ≡ mark_after m word
+
+-- the word that a window of so many bits and a piece behind `11` make
+pub record Makes (w : Option ValueWindow) (lead len piece x : ℕ) : Type 0 where
+  pub room : lead + len ≤ 64
+  pub word : x ≡ piece * 2 ^ (64 - lead - len)
+  pub some : 0 < x
+  pub small : x < 2 ^ 64
+  pub lead_is : lead ≡ (window_for x).lead
+  pub len_is : len ≡ (window_for x).len
+  pub unfit : fits x w ≡ false

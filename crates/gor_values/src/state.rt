@@ -1,0 +1,289 @@
+ghost use Rattle.std.specs.Prelude.{◌≡◌, ℕ, ◌+◌, ◌-◌, ◌*◌, ◌/◌, ◌^◌, ◌<◌, ◌≤◌, ◌++◌, length, drop, true, false, bit_xor, IfOk, IfErr};
+ghost use Rattle.gor_bits.specs.BitString.{BitString};
+ghost use Rattle.gor_model.specs.Codes.{changed_code, window_after};
+ghost use Rattle.gor_values.specs.Words.{ValueMark, first_mark, mark_after, next_code, window_shown, IsWordAt, IsValueFault, IsNoChange, IsFirstFault};
+
+use crate::change::{is_held, read_changed};
+use crate::fault::ValueFault;
+use crate::window::Window;
+use gor_bits::Bits;
+use std::marker::Model;
+
+/// What the words of a block so far leave for the next one: the last word and the value window.
+#[derive(Drop)]
+pub struct ValueState {
+    begun: bool,
+    last: u64,
+    window: Option<Window>,
+}
+
+impl Model for ValueState {
+    ghost use Rattle.gor_values.specs.Words.{ValueMark, window_shown};
+
+    ghost Value = { ValueMark };
+
+    ghost view = { λ s. record { begun = s.begun; last = s.last; window = window_shown s.window } };
+}
+
+/// Writes the code of a change under a window, and gives the window after it.
+fn write_changed(bits: &mut Bits, window: Option<Window>, x: u64) -> Option<Window>
+    requires { 77 ≤ bits.old.spare }
+    ensures bits { bits.new ≡ record { bits = bits.old.bits ++ changed_code (window_shown window) x; spare = bits.old.spare - length (changed_code (window_shown window) x) } }
+    ensures window { window_shown result ≡ window_after x (window_shown window) }
+{
+    if x == 0 {
+        bits.push_reserved(1, 0);
+        return window;
+    }
+    if let Some(held) = window {
+        if held.holds(x) {
+            bits.push_reserved(2, 0b10);
+            bits.push_reserved(held.len, x >> (64 - held.lead - held.len));
+            return window;
+        }
+    }
+    let made = Window::of(x);
+    bits.push_reserved(2, 0b11);
+    bits.push_reserved(5, made.lead as u64);
+    bits.push_reserved(6, made.len as u64 % 64);
+    bits.push_reserved(made.len, x >> (64 - made.lead - made.len));
+    Some(made)
+}
+
+/// The word after a change of the last one.
+fn word_after(x: u64, last: u64) -> u64
+    ensures value { result ≡ bit_xor x last }
+    ensures small { result < 2 ^ 64 }
+{
+    x ^ last
+}
+
+/// The window after a change.
+fn window_behind(window: Option<Window>, x: u64) -> Option<Window>
+    ensures { window_shown result ≡ window_after x (window_shown window) }
+{
+    if x == 0 || is_held(window, x) {
+        window
+    } else {
+        Some(Window::of(x))
+    }
+}
+
+impl ValueState {
+    /// The state of a block that has no word yet.
+    pub fn new() -> ValueState
+        ensures { result ≡ first_mark }
+    {
+        ValueState {
+            begun: false,
+            last: 0,
+            window: None,
+        }
+    }
+
+    /// Writes the code of `word` behind the bits. It takes no memory.
+    pub fn write(&mut self, bits: &mut Bits, word: u64)
+        requires { 77 ≤ bits.old.spare }
+        ensures state { self.new ≡ mark_after self.old word }
+        ensures bits { bits.new ≡ record { bits = bits.old.bits ++ next_code self.old word; spare = bits.old.spare - length (next_code self.old word) } }
+    {
+        if self.begun {
+            self.window = write_changed(bits, self.window, word ^ self.last);
+        } else {
+            bits.push_reserved(64, word);
+        }
+        self.begun = true;
+        self.last = word;
+    }
+    /// The word whose code stands at `at`, the place behind the code and the state after it. It takes no memory.
+    ///
+    /// A fault comes exactly where no code of a word stands; it is the first that holds, at the code's first bit.
+    pub fn read(&self, bits: &Bits, at: usize) -> Result<(u64, usize, ValueState), ValueFault>
+        ensures ok { IfOk result (λ read. IsWordAt self.now (drop at bits.now.bits) at read.0 read.1 read.2) }
+        ensures err { IfErr result (IsValueFault self.now at (drop at bits.now.bits)) }
+    {
+        if self.begun {
+            self.read_behind(bits, at)
+        } else {
+            self.read_first(bits, at)
+        }
+    }
+
+    fn read_first(&self, bits: &Bits, at: usize) -> Result<(u64, usize, ValueState), ValueFault>
+        requires { self.now.begun ≡ false }
+        ensures ok { IfOk result (λ read. IsWordAt self.now (drop at bits.now.bits) at read.0 read.1 read.2) }
+        ensures err { IfErr result (IsFirstFault at (drop at bits.now.bits)) }
+    {
+        let _len = bits.len();
+        let Some(word) = bits.get(at, 64) else {
+            return Err(ValueFault::Short { at });
+        };
+        let after = ValueState {
+            begun: true,
+            last: word,
+            window: self.window,
+        };
+        Ok((word, at + 64, after))
+    }
+
+    fn read_behind(&self, bits: &Bits, at: usize) -> Result<(u64, usize, ValueState), ValueFault>
+        requires { self.now.begun ≡ true }
+        ensures ok { IfOk result (λ read. IsWordAt self.now (drop at bits.now.bits) at read.0 read.1 read.2) }
+        ensures err { IfErr result (IsNoChange self.now.window at (drop at bits.now.bits)) }
+    {
+        let _len = bits.len();
+        let read = read_changed(bits, at, self.window)?;
+        let word = word_after(read.x, self.last);
+        let after = ValueState {
+            begun: true,
+            last: word,
+            window: window_behind(self.window, read.x),
+        };
+        Ok((word, at + read.size, after))
+    }
+}
+
+#[cfg(test)]
+mod tests {
+    use super::*;
+    use std::alloc::{AllocError, Global};
+    use std::process::Abort;
+    use std::test::Fail;
+
+    // The bits that a text of 0 and 1 names.
+    fn of_text(alloc: Global, text: &str) -> Result<Bits, AllocError> {
+        let mut bits = Bits::new(alloc);
+        for byte in text.bytes() {
+            match byte {
+                b'0' => bits.push(1, 0)?,
+                b'1' => bits.push(1, 1)?,
+                _ => {}
+            }
+        }
+        Ok(bits)
+    }
+
+    // The words have these bits, and are read from them.
+    fn both_ways(
+        rt: &impl Abort,
+        alloc: Global,
+        words: &[u64],
+        text: &str,
+    ) -> Result<(), AllocError> {
+        let want = of_text(alloc, text)?;
+        let mut bits = Bits::new(alloc);
+        let mut writer = ValueState::new();
+        let mut reader = ValueState::new();
+        let mut at = 0;
+        for word in words {
+            bits.reserve(77)?;
+            writer.write(&mut bits, *word);
+            match reader.read(&want, at) {
+                Ok((read, next, after)) => {
+                    assert_eq!(rt; read, *word);
+                    at = next;
+                    reader = after;
+                }
+                Err(_) => panic!(rt; "no word"),
+            }
+        }
+        assert_eq!(rt; bits.as_bytes(), want.as_bytes());
+        assert_eq!(rt; at, want.len());
+        Ok(())
+    }
+
+    #[test]
+    fn spells_words(rt: HostRuntime) -> Result<(), Fail> {
+        both_ways(
+            &rt,
+            rt.alloc(),
+            &[
+                0x4028000000000000,
+                0x4028000000000000,
+                0x4038000000000000,
+                0x4028000000000000,
+            ],
+            "0100000000101000000000000000000000000000000000000000000000000000 0 11 01011 000001 1 10 1",
+        )?;
+        both_ways(
+            &rt,
+            rt.alloc(),
+            &[0x0000000000000000, 0x0000000000ff0000],
+            "0000000000000000000000000000000000000000000000000000000000000000 11 11111 010001 00000000011111111",
+        )?;
+        both_ways(
+            &rt,
+            rt.alloc(),
+            &[0x0000000000000000, 0x8000000000000001],
+            "0000000000000000000000000000000000000000000000000000000000000000 11 00000 000000 1000000000000000000000000000000000000000000000000000000000000001",
+        )?;
+        both_ways(
+            &rt,
+            rt.alloc(),
+            &[0xffffffffffffffff, 0x7ff8000000000001],
+            "1111111111111111111111111111111111111111111111111111111111111111 11 00000 111111 100000000000011111111111111111111111111111111111111111111111111",
+        )?;
+        both_ways(
+            &rt,
+            rt.alloc(),
+            &[0x3ff0000000000000, 0xbff0000000000000, 0x3ff0000000000000],
+            "0011111111110000000000000000000000000000000000000000000000000000 11 00000 000001 1 10 1",
+        )?;
+        Ok(())
+    }
+
+    // Codes behind the one word 0, so without a value window.
+    const REFUSED: [(&str, ValueFault); 11] = [
+        ("", ValueFault::Short { at: 0 }),
+        ("1", ValueFault::Short { at: 0 }),
+        ("11 00000 00000", ValueFault::Short { at: 0 }),
+        ("11 00000 000001", ValueFault::Short { at: 0 }),
+        ("11 11111 100010 1", ValueFault::Short { at: 0 }),
+        ("10", ValueFault::Spelling { at: 0 }),
+        ("10 1", ValueFault::Spelling { at: 0 }),
+        (
+            "11 11111 100010 1000000000000000000000000000000001",
+            ValueFault::Spelling { at: 0 },
+        ),
+        ("11 00000 000001 0", ValueFault::Spelling { at: 0 }),
+        ("11 00000 000010 10", ValueFault::Spelling { at: 0 }),
+        (
+            "11 11110 010010 000000000011111111",
+            ValueFault::Spelling { at: 0 },
+        ),
+    ];
+
+    // Codes under the window of the one bit behind 11.
+    const REFUSED_BEHIND: [(&str, ValueFault); 3] = [
+        ("10", ValueFault::Short { at: 0 }),
+        ("10 0", ValueFault::Spelling { at: 0 }),
+        ("11 01011 000001 1", ValueFault::Spelling { at: 0 }),
+    ];
+
+    #[test]
+    fn refuses_what_is_no_code(rt: HostRuntime) -> Result<(), Fail> {
+        let mut bits = Bits::new(rt.alloc());
+        let mut state = ValueState::new();
+        bits.reserve(77)?;
+        state.write(&mut bits, 0);
+        for (text, want) in REFUSED {
+            let bits = of_text(rt.alloc(), text)?;
+            assert_eq!(rt;
+                state.read(&bits, 0).map(|(word, next, _)| (word, next)),
+                Err(want),
+                "{text}"
+            );
+        }
+        bits.reserve(77)?;
+        state.write(&mut bits, 0x0010_0000_0000_0000);
+        for (text, want) in REFUSED_BEHIND {
+            let bits = of_text(rt.alloc(), text)?;
+            assert_eq!(rt;
+                state.read(&bits, 0).map(|(word, next, _)| (word, next)),
+                Err(want),
+                "{text}"
+            );
+        }
+        Ok(())
+    }
+}
