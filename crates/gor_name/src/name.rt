@@ -132,7 +132,7 @@ fn folded(alloc: Global, text: &str) -> Result<String, AllocError>
 pub(crate) fn hash(bytes: &[u8]) -> u64
     ensures { result ≡ fnv1a bytes.now }
 {
-    let mut hash = 14695981039346656037;
+    let mut hash: u64 = 14695981039346656037;
     for byte in bytes {
         hash = (hash ^ u64::from(*byte)).wrapping_mul(1099511628211);
     }
