@@ -1,6 +1,6 @@
 -- Numbers that are read are the numbers that were written, and records one after another go both ways.
 use Rattle.std.proofs.Common.{◌≡◌, ℕ, zero, suc, ◌+◌, ◌-◌, ◌^◌, ◌<◌, ◌≤◌, Bool, true, false, cond, leb, ltb, List, [], ◌∷◌, ◌++◌, length, take, drop, Result, Ok, Err, refl, sym, ap, subst, ◌∙◌, append_assoc, arith, inl, inr}
-use Rattle.std.specs.Prelude.{not, ◌&&◌}
+use Rattle.std.specs.Prelude.{not, ◌&&◌, OnOk}
 use Rattle.std.specs.Cmp.Derive.{both_true}
 use Rattle.std.specs.List.{flat_map, AllByRecursion}
 use Rattle.std.specs.Int.{Width, w32, w64, byte_len, from_be_bytes, to_be_bytes}
@@ -197,3 +197,12 @@ pub each_ends : {X : Type 0} (read : Reader X) (at : ℕ) (bytes : List ℕ) (fr
     → with_front front (each_of read at bytes) ≡ total → total ≡ Ok front
 each_ends {X = X} read at [] front total none so_far = sym so_far ∙ ap (with_front front) (each_nil read 0 at) ∙ ap (λ (ys : List X). Ok ys) (append-nil front)
 each_ends read at (b ∷ bytes) front total none so_far = absurd (omega arith)
+
+-- ---- writing one piece after another
+
+pub joined : (a b c x y : List ℕ) → b ≡ a ++ x → c ≡ b ++ y → c ≡ a ++ (x ++ y)
+joined a b c x y first second = second ∙ (ap (λ (front : List ℕ). front ++ y) first ∙ append_assoc a x y)
+
+pub appended : {T E : Type 0} (r : Result T E) (a b c x y : List ℕ) → b ≡ a ++ x → OnOk r (c ≡ b ++ y) → OnOk r (c ≡ a ++ (x ++ y))
+appended (Ok v) a b c x y first second = joined a b c x y first second
+appended (Err e) a b c x y first second = tt

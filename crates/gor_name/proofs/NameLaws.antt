@@ -48,3 +48,9 @@ unfolding is_name
 test_of bytes name =
     both_true (both_true (both_true (is_utf8-from_IsUtf8 bytes name.text) (le-leb 1 (length bytes) name.some)) (le-leb (length bytes) 255 name.short))
     (test_of_plains bytes name.plain)
+
+pub no_name : (bytes : List ℕ) → (IsName bytes → ⊥) → is_name bytes ≡ false
+no_name bytes none = by (is_name bytes) refl where
+  by : (b : Bool) → is_name bytes ≡ b → is_name bytes ≡ false
+  by true e = absurd (none (name_of bytes e))
+  by false e = e

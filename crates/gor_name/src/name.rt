@@ -93,7 +93,8 @@ impl Name {
 
     /// An equal name.
     pub fn copy(&self) -> Result<Name, AllocError>
-        ensures { IfOk result (λ name. name ≡ self.now) }
+        ensures equal { IfOk result (λ name. name ≡ self.now) }
+        ensures name { IsName self.now }
     {
         Ok(Name {
             text: self.text.clone()?,
