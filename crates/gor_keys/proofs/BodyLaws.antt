@@ -1,22 +1,20 @@
 -- Records and bodies: what is read is spelled so, and what is spelled so is read.
-use Rattle.std.proofs.Common.{◌≡◌, ℕ, suc, ◌+◌, ◌^◌, ◌<◌, ◌≤◌, ◌⊎◌, inl, inr, add-one, Bool, true, false, cond, eqb, List, [], ◌∷◌, ◌++◌, length, drop, Result, Ok, Err, refl, sym, ap, subst, ◌∙◌, append_assoc, arith}
+use Rattle.std.proofs.Common.{◌≡◌, ℕ, suc, ◌+◌, ◌≤◌, ◌⊎◌, inl, inr, add-one, Bool, true, false, cond, eqb, List, [], ◌∷◌, ◌++◌, length, drop, Result, Ok, refl, sym, ap, subst, arith}
 use Rattle.std.specs.Prelude.{not, ◌&&◌}
-use Rattle.std.specs.List.{flat_map, AllByRecursion}
-use Rattle.std.specs.Int.{w32, w64, to_be_bytes}
+use Rattle.std.specs.List.{flat_map}
 use Rattle.std.proofs.lemmas.Bool.{eqb-true}
 use Rattle.gor_model.specs.declared.unit.Unit.{Unit as TimeUnit}
 use Rattle.gor_model.specs.declared.unit.Unit.TheVariants.{Second, Milli}
-use Rattle.gor_model.specs.declared.wrong.Wrong.{Wrong}
 use Rattle.gor_model.specs.declared.wrong.Wrong.TheVariants.{Version, Kind}
 use Rattle.gor_model.specs.declared.wrong.Misread.{Misread}
-use Rattle.gor_model.specs.Fields.{IsBytes, wrong, ◌>>=◌, each_of}
+use Rattle.gor_model.specs.Fields.{IsBytes, wrong, ◌>>=◌}
 use Rattle.gor_model.proofs.FieldLaws.{bind_ok, and_true, ok_is, IsReader, Moves, each_takes, each_again}
 use Rattle.gor_keys.specs.declared.record.Series.{Series}
 use Rattle.gor_keys.specs.declared.record.KeyRecord.{KeyRecord}
 use Rattle.gor_keys.specs.declared.record.KeyRecord.TheVariants.{Create, Delete, Live}
 use Rattle.gor_keys.specs.Spelling.{version, IsSeries, series, IsRecord, AreRecords, series_fields, record_spelling, spelling}
 use Rattle.gor_keys.specs.Reading.{name_at, series_in, delete_in, created, living, record_in, Keys, in_unit, records_in, keys_in}
-use Rattle.gor_keys.proofs.KeyLaws.{series_takes, series_again, fields_len, TakesRecord, delete_takes, delete_again, delete_moves, small_slot, at_fault}
+use Rattle.gor_keys.proofs.KeyLaws.{series_takes, series_again, fields_len, TakesRecord, delete_takes, delete_again, delete_moves, small_slot}
 
 -- ---- a record
 

@@ -1,28 +1,25 @@
 -- The fields of a series and of a delete: what is read is spelled so, and what is spelled so is read.
-use Rattle.std.proofs.Common.{◌≡◌, ◌≢◌, ℕ, suc, ◌+◌, ◌%◌, ◌^◌, ◌<◌, ◌≤◌, ◌⊎◌, inl, inr, add-one, Bool, true, false, cond, eqb, leb, ltb, List, [], ◌∷◌, ◌++◌, length, take, drop, slice_index, get_or, Result, Ok, Err, refl, sym, ap, subst, ◌∙◌, append_assoc, arith}
-use Rattle.std.specs.Prelude.{not, ◌&&◌}
-use Rattle.std.specs.List.{flat_map, AllByRecursion}
+use Rattle.std.proofs.Common.{◌≡◌, ◌≢◌, ℕ, ◌+◌, ◌%◌, ◌^◌, ◌<◌, ◌≤◌, Bool, true, false, eqb, leb, ltb, List, ◌∷◌, ◌++◌, length, drop, slice_index, Ok, refl, sym, ap, subst, ◌∙◌, append_assoc, arith}
 use Rattle.std.specs.Int.{w32, w64, to_be_bytes}
 use Rattle.std.specs.Cmp.Derive.{both_true}
 use Rattle.std.proofs.lemmas.Bool.{eqb-true, ltb-false, leb-true, le-leb, le-ltb, ne_eqb}
-use Rattle.std.proofs.lemmas.List.{take_at, drop_at, take-append-drop, drop-drop, drop_more, length-take, length-drop, length-append}
+use Rattle.std.proofs.lemmas.List.{take_at, take-append-drop, drop-drop, drop_more, length-take, length-drop, length-append}
 use Rattle.std.proofs.lemmas.Nat.{from_be_bytes-to_be_bytes_4, from_be_bytes-to_be_bytes_8}
-use Rattle.gor_model.specs.Names.{IsName}
 use Rattle.gor_model.specs.Windows.{last_window, window_length, end_in}
 use Rattle.gor_model.specs.declared.unit.Unit.{Unit as TimeUnit}
 use Rattle.gor_model.specs.declared.unit.Unit.TheVariants.{Second, Milli}
 use Rattle.gor_model.specs.declared.wrong.Wrong.{Wrong}
-use Rattle.gor_model.specs.declared.wrong.Wrong.TheVariants.{Version, Kind, Short, Value}
+use Rattle.gor_model.specs.declared.wrong.Wrong.TheVariants.{Short, Value}
 use Rattle.gor_model.specs.declared.wrong.Misread.{Misread}
-use Rattle.gor_model.specs.Fields.{IsBytes, IsNumber, number_in, is_number, wrong, ◌>>=◌, each_of}
-use Rattle.gor_model.proofs.FieldLaws.{bind_ok, guard_ok, guard_held, and_true, ok_is, number_held, number_tested, number_parts, number_below, wide32, wide64, IsBytes-drop, IsReader, each_takes, each_again}
+use Rattle.gor_model.specs.Fields.{IsBytes, number_in, is_number}
+use Rattle.gor_model.proofs.FieldLaws.{guard_ok, guard_held, and_true, ok_is, number_held, number_tested, number_parts, wide32, wide64}
 use Rattle.gor_name.specs.NameTest.{is_name}
 use Rattle.gor_name.proofs.NameLaws.{name_of, test_of}
 use Rattle.gor_keys.specs.declared.record.Series.{Series}
 use Rattle.gor_keys.specs.declared.record.KeyRecord.{KeyRecord}
-use Rattle.gor_keys.specs.declared.record.KeyRecord.TheVariants.{Create, Delete, Live}
-use Rattle.gor_keys.specs.Spelling.{last_slot, floor_len, floor_bytes, version, IsFloor, IsSeries, IsPlace, series, IsRecord, AreRecords, series_fields, record_spelling, spelling}
-use Rattle.gor_keys.specs.Reading.{is_slot, is_floor, floor_in, length_at, name_at, name_len, name_in, series_in, delete_in, created, living, record_in, Keys, in_unit, records_in, keys_in}
+use Rattle.gor_keys.specs.declared.record.KeyRecord.TheVariants.{Delete}
+use Rattle.gor_keys.specs.Spelling.{last_slot, floor_bytes, IsFloor, IsSeries, IsPlace, series, IsRecord, series_fields, record_spelling}
+use Rattle.gor_keys.specs.Reading.{is_slot, is_floor, floor_in, length_at, name_at, name_len, name_in, series_in, delete_in}
 
 abbrev pub at_fault : ℕ → Wrong → Misread
 at_fault at kind = record { at = at; kind = kind }
