@@ -44,9 +44,9 @@ bad_name all names text word more count r is named =
     let whole : names ++ word ∷ more ≡ all = ap (λ (ws : List (List ℕ)). names ++ ws) (sym is) ∙ r.joined in
     let bad : list_all is_named (names ++ word ∷ more) ≡ false = named_all names more word r.named ∙ rw named refl in
     rw (← whole) (rw bad (either (names ++ word ∷ more) (nat_le 1 (length (names ++ word ∷ more)) && nat_le (length (names ++ word ∷ more)) 16))) where
-  either : (x : List (List ℕ)) (b : Bool) → cond (b && false) (Some x) None ≡ None
-  either x true = refl
-  either x false = refl
+      either : (x : List (List ℕ)) (b : Bool) → cond (b && false) (Some x) None ≡ None
+      either x true = refl
+      either x false = refl
 
 pub too_many : (all names : List (List ℕ)) (text : List ℕ) (count : ℕ) → ReadSoFar all names text count → 16 ≤ count → names_of all ≡ None
 too_many all names text count r most =
@@ -54,8 +54,8 @@ too_many all names text count r most =
     let long : 16 < length all = omega (arith, ap length (sym r.joined), length-append names (words_of text), ap length first.1.1, r.counted) in
     let many : nat_le (length all) 16 ≡ false = lt-leb (length all) 16 long in
     rw many (either (nat_le 1 (length all)) (list_all is_named all)) where
-  either : (b c : Bool) → cond (b && false && c) (Some all) None ≡ None
-  either true true = refl
-  either true false = refl
-  either false true = refl
-  either false false = refl
+      either : (b c : Bool) → cond (b && false && c) (Some all) None ≡ None
+      either true true = refl
+      either true false = refl
+      either false true = refl
+      either false false = refl

@@ -15,8 +15,11 @@ pub mod spelling;
 pub mod workload;
 
 pub use accept::{Accepts, EveryLine};
-pub use merged::MergedPoints;
 pub use answer::{LaneAnswer, Reason, What};
+pub use merged::MergedPoints;
 pub use reader::{TextFault, read_accepted, read_workload};
 pub use spelling::write_answer;
 pub use workload::{Item, Line, Names, Phase, Workload};
+
+#[cfg(test)]
+mod tests;

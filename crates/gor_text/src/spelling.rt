@@ -31,7 +31,11 @@ fn glyph(value: u8) -> u8
     requires { value < 16 }
     ensures { result ≡ hex_digit value }
 {
-    if value < 10 { b'0' + value } else { b'a' + (value - 10) }
+    if value < 10 {
+        b'0' + value
+    } else {
+        b'a' + (value - 10)
+    }
 }
 
 /// Adds the lowest digits of a number in base 16, the highest of them first.
@@ -176,11 +180,7 @@ fn push_what(out: &mut Vec<u8>, lane: u32, what: &What) -> Result<(), AllocError
 }
 
 /// Appends the line of an answer, with its LF. Where memory is wanting nothing was appended.
-pub fn write_answer(
-    alloc: Global,
-    out: &mut Vec<u8>,
-    answer: &LaneAnswer,
-) -> Result<(), AllocError>
+pub fn write_answer(alloc: Global, out: &mut Vec<u8>, answer: &LaneAnswer) -> Result<(), AllocError>
     ensures ok { OnOk result (out.new.items ≡ out.old.items ++ answer_line answer.now) }
     ensures err { OnErr result (out.new.items ≡ out.old.items) }
 {
