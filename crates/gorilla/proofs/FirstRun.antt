@@ -120,11 +120,11 @@ module _ (slots : ℕ) where
       let p : Point = record { time = time; word = word } in
       let grown = row_after-cons start (change.Put name name time word) (changes H) q (no_stray_seals start (changes H) (legal_fits start H legal) q) in
       at (bytes_tell q name) ∙ (sym (points_put (bytes_eq q name) p (row_after start (changes H) q) _ refl) ∙ sym (ap points_of grown)) where
-    at : ((bytes_eq q name ≡ true) × (q ≡ name)) ⊎ ((bytes_eq q name ≡ false) × (q ≢ name))
-        → with_put true name (record { time = time; word = word }) points q
-        ≡ cond (bytes_eq q name) (Some (unwrap_or (points_of (row_after start (changes H) q)) [] ++ record { time = time; word = word } ∷ [])) (points_of (row_after start (changes H) q))
-    at (inl same) = rw same.0 (ap (λ (ps : Option (List Point)). Some (unwrap_or ps [] ++ record { time = time; word = word } ∷ [])) (ap points (sym same.1) ∙ stands q))
-    at (inr other) = rw other.0 (stands q)
+        at : ((bytes_eq q name ≡ true) × (q ≡ name)) ⊎ ((bytes_eq q name ≡ false) × (q ≢ name))
+            → with_put true name (record { time = time; word = word }) points q
+            ≡ cond (bytes_eq q name) (Some (unwrap_or (points_of (row_after start (changes H) q)) [] ++ record { time = time; word = word } ∷ [])) (points_of (row_after start (changes H) q))
+        at (inl same) = rw same.0 (ap (λ (ps : Option (List Point)). Some (unwrap_or ps [] ++ record { time = time; word = word } ∷ [])) (ap points (sym same.1) ∙ stands q))
+        at (inr other) = rw other.0 (stands q)
 
   -- a put is stored by both, or late by both
   put_cases : (due : Bool) (time : ℕ) (points : Option (List Point))

@@ -79,12 +79,14 @@ one_phase (OnLane lane line ∷ items) is =
     let parts = both (is_first_item (OnLane lane line)) (list_all is_first_item items) is in
     let own = both (nat_eq lane 0) (is_first_line line) parts.0 in
     let zeroth : lane ≡ 0 = eqb-true lane 0 own.0 in
-    let rest = one_phase items parts.1 in
-    (line ∷ rest.0, record {
-      phased = ap (λ (n : ℕ). onto_phase n line (phases_of items)) zeroth ∙ ap (onto_phase 0 line) rest.1.phased;
-      taken = and_from (is_first_line line) (list_all is_first_line rest.0) own.1 rest.1.taken;
-      few = omega (arith, rest.1.few);
-    })
+    let rest = one_phase items parts.1 in (
+      line ∷ rest.0,
+      record {
+        phased = ap (λ (n : ℕ). onto_phase n line (phases_of items)) zeroth ∙ ap (onto_phase 0 line) rest.1.phased;
+        taken = and_from (is_first_line line) (list_all is_first_line rest.0) own.1 rest.1.taken;
+        few = omega (arith, rest.1.few);
+      },
+    )
 
 -- ---- a text has no more lines than bytes
 
@@ -106,12 +108,14 @@ pub record IsFirstText (input : List ℕ) (phases : List (List (List Line))) (li
 
 pub first_text : (input : List ℕ) (phases : List (List (List Line))) → IsWorkloadText is_first_item input phases → (lines : List Line) × IsFirstText input phases lines
 first_text input phases text =
-    let one = one_phase text.items text.accepted in
-    (one.0, record {
-      phased = text.phased ∙ one.1.phased;
-      taken = one.1.taken;
-      few = omega (arith, one.1.few, few_lines input, ap length text.said, length-map (lines_of input) item_of, length-map text.items (λ item. Some item));
-    })
+    let one = one_phase text.items text.accepted in (
+      one.0,
+      record {
+        phased = text.phased ∙ one.1.phased;
+        taken = one.1.taken;
+        few = omega (arith, one.1.few, few_lines input, ap length text.said, length-map (lines_of input) item_of, length-map text.items (λ item. Some item));
+      },
+    )
 
 -- what holds of each line holds of one of them
 pub taken_at : (lines : List Line) (i : ℕ) (d : Line) → list_all is_first_line lines ≡ true → i < length lines → is_first_line (get_or lines i d) ≡ true

@@ -10,6 +10,8 @@ pub mod program;
 mod shelf;
 pub mod status;
 mod streams;
+#[cfg(test)]
+mod tests;
 mod words;
 
 use program::run;
