@@ -1,3 +1,4 @@
+pub mod Apart
 pub mod Codes
 pub mod Fields
 pub mod Readings

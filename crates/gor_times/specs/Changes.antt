@@ -72,3 +72,8 @@ pub record IsChangeAt (rest : List Bool) (at : ℕ) (d : ℤ) (next : ℕ) : Typ
   pub within : length (change_code d) ≤ length rest
   pub low : negsuc 2147483647 ≤ℤ d
   pub high : d ≤ℤ pos 2147483647
+
+-- a change that the code has
+pub record IsInRange (d : ℤ) : Type 0 where
+  pub low : negsuc 2147483647 ≤ℤ d
+  pub high : d ≤ℤ pos 2147483647

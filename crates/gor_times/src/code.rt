@@ -1,8 +1,8 @@
 // The code of a change alone.
-ghost use Rattle.std.specs.Prelude.{◌≡◌, ◌+◌, ◌-◌, ◌^◌, ◌≤◌, ◌++◌, ℤ, pos, negsuc, ◌≤ℤ◌, length, drop, IfOk, IfErr};
+ghost use Rattle.std.specs.Prelude.{◌≡◌, ◌+◌, ◌-◌, ◌^◌, ◌≤◌, ◌++◌, ℤ, pos, negsuc, ◌≤ℤ◌, length, drop, IfOk, IfErr, IsOkAnd};
 ghost use Rattle.gor_bits.specs.BitString.{BitString};
 ghost use Rattle.gor_model.specs.Codes.{change_code, Begins};
-ghost use Rattle.gor_times.specs.Changes.{IsNoChange, IsChangeAt};
+ghost use Rattle.gor_times.specs.Changes.{IsNoChange, IsChangeAt, IsInRange};
 
 use crate::change::{read_change, write_change};
 use crate::fault::TimeFault;
@@ -24,8 +24,17 @@ pub fn write_code(bits: &mut Bits, d: i64)
 
 /// The change whose code stands at `at`, and the place behind it. It takes no memory.
 ///
-/// The fault is `Short` or `Spelling`, and comes exactly where no code of a change stands there.
+/// The fault is `Short` or `Spelling`, and comes exactly where no code of a change stands there. What was written is what
+/// is read, whatever follows.
 pub fn read_code(bits: &Bits, at: usize) -> Result<(i64, usize), TimeFault>
+    ensures ok { IfOk result (λ read. IsChangeAt (drop at bits.now.bits) at read.0 read.1) }
+    ensures err { IfErr result (IsNoChange at (drop at bits.now.bits)) }
+    ensures found { (d : ℤ) → IsInRange d → Begins (change_code d) (drop at bits.now.bits) → IsOkAnd result (λ read. read.0 ≡ d) }
+{
+    read_signed(bits, at)
+}
+
+fn read_signed(bits: &Bits, at: usize) -> Result<(i64, usize), TimeFault>
     ensures ok { IfOk result (λ read. IsChangeAt (drop at bits.now.bits) at read.0 read.1) }
     ensures err { IfErr result (IsNoChange at (drop at bits.now.bits)) }
 {
