@@ -1,6 +1,6 @@
 -- The answers of the definitions to puts and gets, one line after another, have a transcript.
-use Rattle.std.proofs.Common.{◌≡◌, ℕ, ◌+◌, ◌<◌, ◌≤◌, ◌⊎◌, List, [], ◌∷◌, ◌++◌, length, zero, suc, Option, Some, None, true, false, refl, sym, ap, subst, ◌∙◌, arith}
-use Rattle.std.specs.Prelude.{map, flat_map, reverse, slice_get, replicate, IsPermutation, ⊤, nat_eq}
+use Rattle.std.proofs.Common.{◌≡◌, ℕ, ◌+◌, ◌<◌, List, [], ◌∷◌, ◌++◌, length, Some, refl, sym, ap, subst, ◌∙◌, arith}
+use Rattle.std.specs.Prelude.{map, flat_map, reverse, slice_get, IsPermutation, ⊤}
 use Rattle.std.specs.List.{AllByRecursion, range_with_len}
 use Rattle.std.proofs.lemmas.List.{append_assoc, append-nil, reverse-append}
 use mathlib.Core.List.{reverse-cons}
@@ -13,12 +13,12 @@ use Rattle.gor_model.specs.declared.event.Reply.{Reply}
 use Rattle.gor_model.specs.declared.event.Event.{Event}
 use Rattle.gor_model.specs.declared.start.Start.{Start}
 use Rattle.gor_model.specs.Changes.{History}
-use Rattle.gor_model.specs.Answers.{answer, MayAsk, Legal, IsAnswered}
+use Rattle.gor_model.specs.Answers.{answer, MayAsk, Legal}
 use Rattle.gor_model.specs.Replies.{answered}
 use Rattle.gor_text.specs.declared.workload.Line.{Line}
-use Rattle.gor_text.specs.declared.workload.Line.TheVariants.{Put, Get, Del, Flush, Finish, Merge}
-use Rattle.gor_text.specs.LineAnswers.{Act, Made, FirstLineAnswers, put, get}
-use Rattle.gor_text.specs.Transcripts.{Served, Printed, Rises, StandsIn, IsPrinted, printed_from, printed_line, printed_act, text_of, FinishSeals, Transcript}
+use Rattle.gor_text.specs.declared.workload.Line.TheVariants.{Put, Get}
+use Rattle.gor_text.specs.LineAnswers.{Made, FirstLineAnswers, put, get}
+use Rattle.gor_text.specs.Transcripts.{Served, Printed, Rises, StandsIn, IsPrinted, printed_from, printed_line, text_of, FinishSeals, Transcript}
 
 -- a line of the first stage, as a put or a get
 pub data Asks : Line → Call → Type 0 where

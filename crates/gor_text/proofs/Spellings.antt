@@ -1,5 +1,5 @@
 -- How numbers are written, digit by digit.
-use Rattle.std.proofs.Common.{◌≡◌, ◌≢◌, ℕ, zero, suc, ◌+◌, ◌-◌, ◌/◌, ◌%◌, List, [], ◌∷◌, ◌++◌, refl, arith}
+use Rattle.std.proofs.Common.{◌≡◌, ◌≢◌, ℕ, zero, suc, ◌-◌, ◌/◌, ◌%◌, [], ◌∷◌, ◌++◌, refl, arith}
 use Rattle.gor_text.specs.Spelling.{hex_digit, hex_digits}
 
 -- the lowest digit stands last

@@ -1,20 +1,14 @@
 -- Worked texts, by computation.
-use Rattle.std.proofs.Common.{◌≡◌, ℕ, List, [], ◌∷◌, ◌++◌, Option, Some, None, true, false, refl}
-use Rattle.std.specs.Prelude.{codes, decimal}
+use Rattle.std.proofs.Common.{◌≡◌, [], ◌∷◌, ◌++◌, false, refl}
+use Rattle.std.specs.Prelude.{codes}
 use Rattle.std.specs.Fmt.{digits}
-use Rattle.gor_model.specs.declared.point.Point.{Point}
-use Rattle.gor_model.specs.declared.point.Merged.{Merged}
-use Rattle.gor_model.specs.declared.event.Call.{Call}
 use Rattle.gor_model.specs.declared.event.Call.TheVariants as call
-use Rattle.gor_model.specs.declared.event.Reply.{Reply}
 use Rattle.gor_model.specs.declared.event.Reply.TheVariants as reply
-use Rattle.gor_text.specs.declared.answer.Reason.{Reason}
 use Rattle.gor_text.specs.declared.answer.Reason.TheVariants as reason
-use Rattle.gor_text.specs.declared.workload.Line.{Line}
 use Rattle.gor_text.specs.declared.workload.Line.TheVariants as line
-use Rattle.gor_text.specs.Spelling.{word_text, event_line, refusal_line, merged_line}
-use Rattle.gor_text.specs.LineAnswers.{Act, Made, Refused, MergedPoints}
-use Rattle.gor_text.specs.Transcripts.{Served, text_of}
+use Rattle.gor_text.specs.Spelling.{word_text, refusal_line, merged_line}
+use Rattle.gor_text.specs.LineAnswers.{Made}
+use Rattle.gor_text.specs.Transcripts.{text_of}
 use Rattle.gor_text.specs.Grammar.{lines_of}
 
 row_2 : text_of (((

@@ -1,10 +1,10 @@
 -- The words of a line, from the front on.
-use Rattle.std.proofs.Common.{◌≡◌, ◌≢◌, ℕ, suc, ◌+◌, ◌<◌, ◌≤◌, List, [], ◌∷◌, ◌++◌, length, take, drop, get_or, Bool, true, false, cond, Option, None, refl, sym, ap, ◌∙◌, append_assoc, append-nil, drop-cons, add-one}
+use Rattle.std.proofs.Common.{◌≡◌, ◌≢◌, ℕ, suc, ◌+◌, ◌<◌, ◌≤◌, List, [], ◌∷◌, ◌++◌, length, take, drop, get_or, Bool, true, false, cond, None, refl, sym, ap, append_assoc, append-nil, drop-cons, add-one}
 use Rattle.std.specs.Prelude.{nat_eq}
 use Rattle.std.proofs.Math.Seq.{take-suc}
 use Rattle.std.proofs.lemmas.List.{take_all, drop_all}
-use Rattle.std.proofs.lemmas.Bool.{eqb-true, eq-eqb}
-use Rattle.gor_text.specs.Grammar.{onto_first, words_of, lines_of, one_of}
+use Rattle.std.proofs.lemmas.Bool.{eqb-true}
+use Rattle.gor_text.specs.Grammar.{onto_first, words_of, one_of}
 
 -- some bytes in front of the first part
 abbrev pub onto_front : List ℕ → List (List ℕ) → List (List ℕ)

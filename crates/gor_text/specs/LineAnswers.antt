@@ -1,5 +1,5 @@
 -- Which acts one line of a lane may bring about. An act is an event of a shard, a refusal, or a merged list.
-use Rattle.std.specs.Prelude.{◌≡◌, ◌≢◌, ◌⊎◌, ℕ, ◌<◌, ◌≤◌, ◌%◌, List, [], ◌∷◌, ◌++◌, map, Option, None, Some, Bool, true, false, ⊤}
+use Rattle.std.specs.Prelude.{◌≡◌, ℕ, ◌<◌, ◌≤◌, List, [], ◌∷◌, ◌++◌, Option, None, Some, true}
 use Rattle.gor_model.specs.declared.point.Point.{Point}
 use Rattle.gor_model.specs.declared.point.Merged.{Merged}
 use Rattle.gor_model.specs.declared.event.Call.{Call}

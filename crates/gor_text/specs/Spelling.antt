@@ -1,5 +1,5 @@
 -- How answers are written.
-use Rattle.std.specs.Prelude.{ℕ, ◌+◌, ◌-◌, ◌/◌, ◌%◌, ◌<◌, nat_lt, zero, suc, List, [], ◌∷◌, ◌++◌, length, flat_map, codes, decimal, Bool, true, false, if◌then◌else◌}
+use Rattle.std.specs.Prelude.{ℕ, ◌+◌, ◌/◌, ◌%◌, nat_lt, zero, suc, List, [], ◌∷◌, ◌++◌, length, flat_map, codes, decimal, if◌then◌else◌}
 use Rattle.gor_model.specs.declared.point.Point.{Point}
 use Rattle.gor_model.specs.declared.point.Merged.{Merged as MergedPoint}
 use Rattle.gor_model.specs.declared.event.Reply.{Reply}

@@ -1,5 +1,5 @@
 -- The text of a run: its answer lines, by the histories of the shards.
-use Rattle.std.specs.Prelude.{◌≡◌, ◌≢◌, ◌⊎◌, ℕ, ◌+◌, ◌<◌, ◌≤◌, nat_eq, List, [], ◌∷◌, ◌++◌, map, flat_map, filter, length, reverse, take, slice_get, AllPairs, IsPermutation, Option, Some, None, IfSome, MatchOption, option_to_list, option_and_then, Bool, true, false, if◌then◌else◌, ⊤}
+use Rattle.std.specs.Prelude.{◌≡◌, ◌⊎◌, ℕ, ◌+◌, ◌<◌, ◌≤◌, nat_eq, List, [], ◌∷◌, ◌++◌, map, flat_map, length, reverse, take, slice_get, IsPermutation, Some, IfSome, option_to_list, option_and_then, if◌then◌else◌, ⊤}
 use Rattle.std.specs.List.{AllByRecursion, range_with_len}
 use Rattle.gor_model.specs.Lists.{EachBefore}
 use Rattle.gor_model.specs.declared.event.Call.{Call}
@@ -7,7 +7,6 @@ use Rattle.gor_model.specs.declared.event.Call.TheVariants as call
 use Rattle.gor_model.specs.declared.event.Reply.{Reply}
 use Rattle.gor_model.specs.declared.event.Reply.TheVariants as reply
 use Rattle.gor_model.specs.declared.event.Event.{Event}
-use Rattle.gor_model.specs.Windows.{window_end}
 use Rattle.gor_model.specs.declared.start.Start.{Start}
 use Rattle.gor_model.specs.Changes.{History, changes}
 use Rattle.gor_model.specs.PlainMap.{row_after}

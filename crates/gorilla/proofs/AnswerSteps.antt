@@ -1,9 +1,8 @@
 -- One step of the loop that answers lines, and its end.
-use Rattle.std.proofs.Common.{◌≡◌, ℕ, suc, ◌+◌, ◌<◌, ◌≤◌, List, [], ◌∷◌, ◌++◌, length, drop, get_or, Option, true, refl, sym, ap, subst, ◌∙◌, drop-cons, arith}
+use Rattle.std.proofs.Common.{◌≡◌, ℕ, suc, ◌+◌, ◌<◌, ◌≤◌, List, ◌∷◌, ◌++◌, length, drop, get_or, true, sym, ap, subst, ◌∙◌, drop-cons, arith}
 use Rattle.std.specs.List.{list_all}
 use Rattle.std.proofs.lemmas.List.{drop_all}
 use Rattle.gor_model.specs.declared.event.Reply.{Reply}
-use Rattle.gor_model.proofs.FirstStage.{first_start}
 use Rattle.gor_text.specs.declared.workload.Line.{Line}
 use Rattle.gor_text.specs.Spelling.{event_line}
 use Rattle.gor_text.specs.Transcripts.{Transcript}

@@ -1,6 +1,6 @@
 -- An input is good, or has one first bad line.
-use Rattle.std.proofs.Common.{◌≡◌, ℕ, suc, ◌+◌, ◌≤◌, List, [], ◌∷◌, ◌++◌, length, Option, Some, None, Bool, true, false, refl, sym, ap, subst, ◌∙◌, arith, append-nil}
-use Rattle.std.specs.Prelude.{map, ◌&&◌, IsTrue}
+use Rattle.std.proofs.Common.{◌≡◌, ℕ, suc, ◌≤◌, List, [], ◌∷◌, ◌++◌, length, Option, Some, None, Bool, true, false, refl, sym, ap, subst, ◌∙◌, arith, append-nil}
+use Rattle.std.specs.Prelude.{map}
 use Rattle.std.specs.List.{list_all}
 use Rattle.std.specs.Io.KnownBytes.{Consumes, IsAtEnd}
 use Rattle.std.proofs.lemmas.Bool.{and_parts, and_from}
@@ -11,7 +11,7 @@ use Rattle.gor_text.specs.Workloads.{is_good_line, IsWorkloadText, IsFirstBad}
 use Rattle.gorilla.specs.FirstLines.{is_first_item, is_first_line}
 use Rattle.gorilla.specs.Shelves.{first_lane, one_lane}
 use Rattle.gorilla.specs.Inputs.{IsWhole}
-use Rattle.gorilla.specs.Runs.{IsAnswerTo, IsGoodInput}
+use Rattle.gorilla.specs.Runs.{IsAnswerTo}
 use Rattle.gorilla.proofs.Taking.{first_text}
 
 -- a source that tells its bytes was read to just these

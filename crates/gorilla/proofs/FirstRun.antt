@@ -1,6 +1,6 @@
 -- Puts and gets one after another, answered from a plain list of points for each name, have a transcript.
 use Rattle.std.proofs.Common.{◌≡◌, ◌≢◌, ℕ, suc, ◌+◌, ◌<◌, ◌≤◌, ◌⊎◌, inl, inr, List, [], ◌∷◌, ◌++◌, length, Option, Some, None, Bool, true, false, cond, refl, sym, ap, subst, ◌∙◌, arith, append_assoc, append-nil, option_map, unwrap_or}
-use Rattle.std.specs.Prelude.{nat_le, drop, decimal, codes, filter, map, flat_map, ⊤, is_some}
+use Rattle.std.specs.Prelude.{nat_le, drop, decimal, codes, filter, map}
 use Rattle.std.specs.List.{AllByRecursion, cons_option, range_with_len}
 use Rattle.std.specs.Str.{bytes_eq}
 use Rattle.std.proofs.lemmas.List.FromFn.{length-range_with_len}
@@ -9,28 +9,26 @@ use Rattle.gor_model.specs.declared.event.Call.{Call}
 use Rattle.gor_model.specs.declared.event.Call.TheVariants as call
 use Rattle.gor_model.specs.declared.event.Reply.{Reply}
 use Rattle.gor_model.specs.declared.event.Reply.TheVariants as reply
-use Rattle.gor_model.specs.declared.event.Event.{Event}
-use Rattle.gor_model.specs.declared.event.Change.{Change}
 use Rattle.gor_model.specs.declared.event.Change.TheVariants as change
 use Rattle.gor_model.specs.declared.start.Row.{Row}
 use Rattle.gor_model.specs.declared.start.Start.{Start}
 use Rattle.gor_model.specs.Windows.{greatest_time}
 use Rattle.gor_model.specs.Names.{IsName, key_of}
 use Rattle.gor_model.specs.Changes.{History, changed, changes}
-use Rattle.gor_model.specs.PlainMap.{row_after, Slots, slots_after, is_there, unused_slots, last_of, begun_row}
-use Rattle.gor_model.specs.Answers.{answer, is_due, MayAsk, MayPut, Legal, IsAnswered}
+use Rattle.gor_model.specs.PlainMap.{row_after, Slots, slots_after, is_there, unused_slots, last_of}
+use Rattle.gor_model.specs.Answers.{answer, is_due, MayAsk, Legal}
 use Rattle.gor_model.specs.Replies.{answered}
-use Rattle.gor_model.proofs.PlainMapLaws.{row_after-cons, row_after_change, with_point}
+use Rattle.gor_model.proofs.PlainMapLaws.{row_after-cons, with_point}
 use Rattle.gor_model.proofs.LegalLaws.{legal_fits}
 use Rattle.gor_model.proofs.SlotLaws.{bytes_tell, no_stray_seals}
 use Rattle.gor_model.proofs.FirstStage.{first_start, IsQuiet, AllQuiet, points_of, put_to, put_plain, get_plain, plain_put, plain_get}
 use Rattle.gor_text.specs.declared.workload.Line.{Line}
 use Rattle.gor_text.specs.declared.workload.Line.TheVariants.{Put, Get, Del, Flush, Finish, Merge}
 use Rattle.gor_text.specs.Spelling.{event_line, reply_text}
-use Rattle.gor_text.specs.Transcripts.{Served, lane_text, act_text, text_of, Transcript}
+use Rattle.gor_text.specs.Transcripts.{Served, lane_text, text_of, Transcript}
 use Rattle.gor_text.specs.LineAnswers.{FirstLineAnswers}
-use Rattle.gor_text.proofs.PlainRun.{Asks, asks_put, asks_get, Asked, serve, MayAll, plain_transcript}
-use Rattle.gorilla.specs.Shelves.{PlainPoints, put_reply, late_or_stored, get_reply, is_stored, line_reply, with_put, points_after, one_lane}
+use Rattle.gor_text.proofs.PlainRun.{asks_put, asks_get, Asked, serve, MayAll, plain_transcript}
+use Rattle.gorilla.specs.Shelves.{PlainPoints, put_reply, late_or_stored, get_reply, line_reply, with_put, points_after, one_lane}
 
 -- what a taken line keeps to
 pub record HasPlainName (name : List ℕ) : Type 0 where

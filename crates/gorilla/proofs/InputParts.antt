@@ -1,7 +1,7 @@
 -- An input that is read piece by piece.
-use Rattle.std.proofs.Common.{◌≡◌, ℕ, ◌+◌, ◌<◌, ◌≤◌, List, [], ◌++◌, length, Option, refl, sym, ap, subst, ◌∙◌, arith, append_assoc, length-append}
+use Rattle.std.proofs.Common.{◌≡◌, ℕ, ◌+◌, ◌<◌, ◌≤◌, List, [], ◌++◌, length, Option, refl, sym, subst, ◌∙◌, arith}
 use Rattle.std.specs.Io.KnownBytes.{Consumes, IsAtEnd}
-use Rattle.gorilla.specs.Inputs.{most_input, IsWhole, IsTooLong}
+use Rattle.gorilla.specs.Inputs.{IsWhole}
 use Rattle.gorilla.proofs.KnownParts.{consumed_none, consumed_twice}
 
 -- so many turns gave these bytes, at least one each

@@ -1,6 +1,6 @@
 -- What a plain list has under each name after one name's points changed, or a name was added behind.
-use Rattle.std.proofs.Common.{◌≡◌, ℕ, zero, suc, ◌+◌, ◌<◌, ◌≤◌, ◌≢◌, ◌⊎◌, inl, inr, List, [], ◌∷◌, ◌++◌, length, Bool, true, false, cond, Option, Some, None, refl, sym, ap, ◌∙◌, arith, unwrap_or, option_map, get_or}
-use Rattle.std.specs.Prelude.{position, find, nat_lt, slice_set, slice_get, ◌-◌, if◌then◌else◌}
+use Rattle.std.proofs.Common.{◌≡◌, ℕ, zero, suc, ◌<◌, ◌≤◌, ◌≢◌, ◌⊎◌, inl, inr, List, [], ◌∷◌, ◌++◌, length, Bool, true, false, Some, None, refl, sym, ◌∙◌, arith, option_map, get_or}
+use Rattle.std.specs.Prelude.{position, nat_lt, slice_set, slice_get, ◌-◌, if◌then◌else◌}
 use Rattle.gor_model.specs.PlainMap.{last_of}
 use Rattle.std.specs.Str.{bytes_eq}
 use Rattle.std.proofs.lemmas.List.Quantifiers.{position-Some}

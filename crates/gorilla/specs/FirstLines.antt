@@ -1,9 +1,9 @@
 -- The lines that are taken yet: puts and gets of lane 0, whose names are their own keys.
-use Rattle.std.specs.Prelude.{ℕ, nat_eq, nat_le, List, length, Bool, true, false, ◌&&◌, ◌||◌, if◌then◌else◌}
+use Rattle.std.specs.Prelude.{ℕ, nat_eq, nat_le, List, length, Bool, true, false, ◌&&◌, ◌||◌}
 use Rattle.std.specs.List.{list_all}
 use Rattle.gor_model.specs.Windows.{greatest_time}
 use Rattle.gor_text.specs.declared.workload.Line.{Line}
-use Rattle.gor_text.specs.declared.workload.Line.TheVariants.{Put, Get, Del, Flush, Finish, Merge}
+use Rattle.gor_text.specs.declared.workload.Line.TheVariants.{Put, Get}
 use Rattle.gor_text.specs.declared.workload.Item.{Item}
 use Rattle.gor_text.specs.declared.workload.Item.TheVariants.{Skipped, Joined, OnLane}
 

@@ -1,7 +1,7 @@
 -- What a run reads and writes.
-use Rattle.std.specs.Prelude.{◌≡◌, ℕ, ◌≤◌, ◌++◌, List, [], length, Option, IfSome, IsTrue}
+use Rattle.std.specs.Prelude.{ℕ, ◌≤◌, List, [], length, Option, IsTrue}
 use Rattle.std.specs.List.{list_all}
-use Rattle.std.specs.Io.KnownBytes.{Appends, Consumes, IsAtEnd}
+use Rattle.std.specs.Io.KnownBytes.{Appends}
 use Rattle.gor_model.specs.declared.start.Start.{Start}
 use Rattle.gor_text.specs.declared.workload.Line.{Line}
 use Rattle.gor_text.specs.Workloads.{IsWorkloadText, IsFirstBad, is_good_line}

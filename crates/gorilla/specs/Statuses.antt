@@ -1,5 +1,5 @@
 -- Under which statuses nothing is written.
-use Rattle.std.specs.Prelude.{ℕ, ⊤}
+use Rattle.std.specs.Prelude.{⊤}
 use Rattle.gorilla.specs.declared.status.Status.{Status}
 use Rattle.gorilla.specs.declared.status.Status.TheVariants as status
 

@@ -1,5 +1,5 @@
 -- The words of the command line.
-use Rattle.std.specs.Prelude.{ℕ, List, [], ◌∷◌, map, codes, Bool, true, false, String, string_bytes}
+use Rattle.std.specs.Prelude.{ℕ, List, [], ◌∷◌, map, codes, Bool, false, String, string_bytes}
 use Rattle.std.specs.Str.{bytes_eq}
 
 abbrev pub words_of : {Z : Type 0} → List (String Z) → List (List ℕ)

@@ -1,4 +1,4 @@
-use Rattle.std.proofs.Common.{◌≡◌, sym, ◌∙◌}
+use Rattle.std.proofs.Common.{sym, ◌∙◌}
 use Rattle.std.proofs.lemmas.List.{take_rest}
 use Rattle.gor_text.proofs.Words.{starts, word_goes_on, word_ends, word_alone}
 use Rattle.gor_text.proofs.fields.first_word.Goals as goal

@@ -1,4 +1,4 @@
-use Rattle.std.proofs.Common.{sym, ap, ◌∙◌, append_assoc}
+use Rattle.std.proofs.Common.{append_assoc}
 use Rattle.gor_text.proofs.Spellings.{hex_digits-more}
 use Rattle.gor_text.proofs.spelling.+push_hex.Goals as goal
 

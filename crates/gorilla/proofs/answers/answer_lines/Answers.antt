@@ -1,4 +1,4 @@
-use Rattle.std.proofs.Common.{ap, arith, ◌<◌}
+use Rattle.std.proofs.Common.{arith}
 use Rattle.gorilla.specs.Shelves.{points_in}
 use Rattle.gorilla.proofs.AnswerSteps.{step, whole}
 use Rattle.gorilla.proofs.answers.answer_lines.Goals as goal

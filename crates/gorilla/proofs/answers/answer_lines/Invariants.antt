@@ -1,5 +1,4 @@
-use Rattle.std.proofs.Common.{◌≡◌, drop, true, ◌≤◌, length}
-use Rattle.std.specs.List.{list_all}
+use Rattle.std.proofs.Common.{◌≡◌, drop}
 use Rattle.gorilla.specs.Shelves.{points_in}
 use Rattle.gorilla.proofs.FirstRun.{AnsweredSoFar}
 use Rattle.gorilla.proofs.answers.answer_lines.Given as goal

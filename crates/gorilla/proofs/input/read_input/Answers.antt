@@ -1,4 +1,3 @@
-use Rattle.std.proofs.Common.{ap, length, ◌∙◌, subst, sym, ◌≤◌, arith}
 use Rattle.gorilla.proofs.InputParts.{whole_at_end}
 use Rattle.gorilla.proofs.input.read_input.Goals as goal
 

@@ -1,4 +1,4 @@
-use Rattle.std.proofs.Common.{◌+◌, ◌≤◌, ◌<◌, length}
+use Rattle.std.proofs.Common.{◌<◌, length}
 use Rattle.gorilla.proofs.InputParts.{ReadSoFar}
 use Rattle.gorilla.proofs.input.read_input.Given as goal
 

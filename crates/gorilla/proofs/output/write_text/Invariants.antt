@@ -1,4 +1,4 @@
-use Rattle.std.proofs.Common.{◌≡◌, ◌++◌, List, ℕ, length}
+use Rattle.std.proofs.Common.{length}
 use Rattle.gorilla.proofs.OutputParts.{WrittenSoFar}
 use Rattle.gorilla.proofs.output.write_text.Given as goal
 

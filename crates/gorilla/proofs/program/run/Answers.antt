@@ -1,4 +1,4 @@
-use Rattle.std.proofs.Common.{◌≡◌, List, ℕ, ap, subst, inl, ◌∙◌}
+use Rattle.std.proofs.Common.{◌≡◌, ap, subst, inl, ◌∙◌}
 use Rattle.gor_text.specs.Workloads.{IsFirstBad}
 use Rattle.gorilla.specs.FirstLines.{is_first_item}
 use Rattle.gorilla.specs.Runs.{IsAnswerTo}

@@ -1,7 +1,4 @@
-use Rattle.std.proofs.Common.{◌≡◌, List, ℕ, Some, None, [], ◌∷◌, ◌++◌, sym, ap, ◌∙◌}
-use Rattle.gor_model.specs.declared.point.Point.{Point}
-use Rattle.gorilla.specs.declared.shelf.Series.{Series}
-use Rattle.gorilla.specs.Shelves.{points_in}
+use Rattle.std.proofs.Common.{sym}
 use Rattle.gorilla.proofs.ShelfLaws.{push_points, add_points}
 use Rattle.gorilla.proofs.shelf.add.Goals as goal
 
