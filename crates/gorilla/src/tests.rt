@@ -110,12 +110,22 @@ fn other_words_are_refused(rt: HostRuntime) -> Result<(), AllocError> {
 
 #[test]
 fn faults_have_their_status(rt: HostRuntime) -> Result<(), AllocError> {
-    for place in 0..2u64 {
+    for (place, wanted) in [
+        (0u64, Status::ReadFault),
+        (1, Status::ReadFault),
+        (2, Status::Ok),
+        (3, Status::Ok),
+    ] {
         let (status, held) = ran(&rt, "run", ROW.to_vec(rt.alloc())?, Some(place), None)?;
-        assert_eq!(rt; status, Status::ReadFault);
-        assert_eq!(rt; held.len(), 0);
+        assert_eq!(rt; status, wanted);
+        assert_eq!(rt; held.is_empty(), wanted == Status::ReadFault);
     }
-    for (place, answers) in [(0u64, b"".as_slice()), (1, b"0 0"), (2, b"0 0:0 ")] {
+    for (place, answers) in [
+        (0u64, b"".as_slice()),
+        (1, b"0 0"),
+        (2, b"0 0:0 "),
+        (3, b"0 0:0 sto"),
+    ] {
         let (status, held) = ran(&rt, "run", ROW.to_vec(rt.alloc())?, None, Some(place))?;
         assert_eq!(rt; status, Status::WriteFault);
         assert_eq!(rt; held.as_slice(), answers);
