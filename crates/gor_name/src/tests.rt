@@ -34,6 +34,9 @@ fn other_texts_are_refused(rt: HostRuntime) {
         ("", NameFault::Empty),
         (" cpu", NameFault::Control { at: 0 }),
         ("c\u{1f}pu", NameFault::Control { at: 1 }),
+        ("cpu\u{1f}", NameFault::Control { at: 3 }),
+        ("\u{7f}cpu", NameFault::Control { at: 0 }),
+        ("c\u{7f}pu", NameFault::Control { at: 1 }),
         ("cpu\u{7f}", NameFault::Control { at: 3 }),
         ("ж\tж ", NameFault::Control { at: 2 }),
     ];

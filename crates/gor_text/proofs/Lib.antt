@@ -6,3 +6,4 @@ pub mod Readings
 pub mod Spellings
 pub mod TextRows
 pub mod PlainRun
+pub mod Interleavings

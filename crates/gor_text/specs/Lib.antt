@@ -3,3 +3,4 @@ pub mod Workloads
 pub mod Spelling
 pub mod LineAnswers
 pub mod Transcripts
+pub mod Interleaved
