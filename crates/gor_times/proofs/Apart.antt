@@ -106,8 +106,8 @@ forms_apart c c' rest v v' p p' b b' =
     let h : Begins (form_of c v') rest = subst (λ (k : Case). Begins (form_of k v') rest) e b' in
     (sym e, one_case c rest v v' p q b h)
 
-begins_along : (code code' rest : List Bool) → code ≡ code' → Begins code rest → Begins code' rest
-begins_along code code' rest e b = subst (λ (k : List Bool). Begins k rest) e b
+pub begins_as : (code code' rest : List Bool) → code ≡ code' → Begins code rest → Begins code' rest
+begins_as code code' rest e b = subst (λ (k : List Bool). Begins k rest) e b
 
 -- codes at the front of the same bits are of one change
 pub codes_apart : (d e d' e' : ℕ) (rest : List Bool) → e < d + 2 ^ 31 → d ≤ e + 2 ^ 31 → e' < d' + 2 ^ 31 → d' ≤ e' + 2 ^ 31 →
@@ -115,7 +115,7 @@ pub codes_apart : (d e d' e' : ℕ) (rest : List Bool) → e < d + 2 ^ 31 → d 
 codes_apart d e d' e' rest r f r' f' b b' =
     let a = form_of_code d e r f in
     let a' = form_of_code d' e' r' f' in
-    let one = forms_apart a.0 a'.0 rest a.1.0 a'.1.0 a.1.1.fits a'.1.1.fits (begins_along _ _ rest a.1.1.code b) (begins_along _ _ rest a'.1.1.code b') in
+    let one = forms_apart a.0 a'.0 rest a.1.0 a'.1.0 a.1.1.fits a'.1.1.fits (begins_as _ _ rest a.1.1.code b) (begins_as _ _ rest a'.1.1.code b') in
     let low : low_of a.0 a.1.0 ≡ low_of a'.0 a'.1.0 = ap₂ low_of one.0 one.1 in
     omega (arith, a.1.1.change, a'.1.1.change, low, one.1)
 
@@ -124,7 +124,7 @@ pub short_apart : (d e : ℕ) (rest : List Bool) → e < d + 2 ^ 31 → d ≤ e 
 short_apart d e rest r f short b =
     let a = form_of_code d e r f in
     let form = form_of a.0 a.1.0 in
-    let begins : Begins form rest = begins_along _ _ rest a.1.1.code b in
+    let begins : Begins form rest = begins_as _ _ rest a.1.1.code b in
     let w = bits (width_of a.0) a.1.0 in
     let lens = length-append (prefix_of a.0) w in
     let front : take (length (prefix_of a.0)) rest ≡ prefix_of a.0 =
@@ -134,7 +134,7 @@ short_apart d e rest r f short b =
 pub longer_apart : (d e : ℕ) (rest : List Bool) → e < d + 2 ^ 31 → d ≤ e + 2 ^ 31 → IsLonger rest → Begins (time_code d e) rest → ⊥
 longer_apart d e rest r f long b =
     let a = form_of_code d e r f in
-    let one = forms_apart a.0 long.case rest a.1.0 long.value a.1.1.fits long.fits (begins_along _ _ rest a.1.1.code b) long.begins in
+    let one = forms_apart a.0 long.case rest a.1.0 long.value a.1.1.fits long.fits (begins_as _ _ rest a.1.1.code b) long.begins in
     let low : low_of a.0 a.1.0 ≡ low_of long.case long.value = ap₂ low_of one.0 one.1 in
     let form : form_of a.0 a.1.0 ≡ form_of long.case long.value = ap₂ form_of one.0 one.1 in
     omega (arith, long.longer d e (omega (arith, a.1.1.change, low, one.1)), ap length a.1.1.code, ap length form)

@@ -1,8 +1,9 @@
 -- Times behind a running state: what a block's times so far leave for the next one.
 use Rattle.std.specs.Prelude.{◌≡◌, ◌≢◌, ℕ, ◌+◌, ◌-◌, ◌*◌, ◌<◌, ◌≤◌, List, [], ◌∷◌, length, Bool, true, false, if◌then◌else◌}
+use Rattle.gor_model.specs.declared.point.Point.{Point}
 use Rattle.gor_model.specs.declared.unit.Unit.{Unit as TimeUnit}
 use Rattle.gor_model.specs.Windows.{window_length}
-use Rattle.gor_model.specs.Codes.{bits, Begins, time_code, first_width}
+use Rattle.gor_model.specs.Codes.{bits, Begins, time_code, first_width, last_difference}
 use Rattle.gor_times.specs.declared.fault.TimeFault.{TimeFault}
 use Rattle.gor_times.specs.declared.fault.TimeFault.TheVariants.{Short, Spelling, Order}
 use Rattle.gor_times.specs.Changes.{IsShort, IsLonger, IsChange}
@@ -37,6 +38,11 @@ mark_of u w (time ∷ older) = mark_after (mark_of u w older) time
 abbrev pub next_code : TimeMark → ℕ → List Bool
 next_code m time = if m.begun then time_code m.difference (time - m.last) else bits (first_width m.unit) (time - m.last)
 
+-- the code of the next time behind the points of a block, the last of them first
+abbrev pub code_behind : TimeUnit → ℕ → List Point → ℕ → List Bool
+code_behind u w [] time = bits (first_width u) (time - w * window_length u)
+code_behind u w (p ∷ older) time = time_code (last_difference u w (p ∷ older)) (time - p.time)
+
 -- a time may stand next: it lies in the window, and is later than the last one
 pub record IsNext (m : TimeMark) (time : ℕ) : Type 0 where
   pub starts : m.last ≤ time
@@ -49,6 +55,12 @@ pub record IsTimeAt (m : TimeMark) (rest : List Bool) (at time next : ℕ) (afte
   pub begins : Begins (next_code m time) rest
   pub place : next ≡ at + length (next_code m time)
   pub within : length (next_code m time) ≤ length rest
+  pub state : after ≡ mark_after m time
+
+-- a reader gave this time, the place behind its code and the state after it, and nothing else
+pub record IsExactly (m : TimeMark) (at time read next : ℕ) (after : TimeMark) : Type 0 where
+  pub same : read ≡ time
+  pub place : next ≡ at + length (next_code m time)
   pub state : after ≡ mark_after m time
 
 -- a whole code stands there, but no time that may stand next has it

@@ -7,6 +7,9 @@ ghost use Rattle.gor_times.specs.Changes.{IsChange, IsNoChange};
 use crate::fault::TimeFault;
 use gor_bits::Bits;
 
+/// The field of seven bits that would store a change of 0.
+const NO_CHANGE: u64 = 63;
+
 /// A change by `value` less `low`, whose code takes `size` bits.
 #[derive(Clone, Copy)]
 pub struct Change {
@@ -117,7 +120,7 @@ fn read_near(bits: &Bits, at: usize) -> Result<Change, TimeFault>
         return Err(TimeFault::Short { at });
     };
     let value = code % 0x80;
-    if value == 63 {
+    if value == NO_CHANGE {
         return Err(TimeFault::Spelling { at });
     }
     Ok(Change {

@@ -1,8 +1,9 @@
-ghost use Rattle.std.specs.Prelude.{◌≡◌, ℕ, ◌+◌, ◌-◌, ◌*◌, ◌^◌, ◌<◌, ◌≤◌, ◌++◌, length, drop, true, false, IsTrue, IfOk, IfErr};
+ghost use Rattle.std.specs.Prelude.{◌≡◌, ℕ, ◌+◌, ◌-◌, ◌*◌, ◌^◌, ◌<◌, ◌≤◌, ◌++◌, List, Bool, map, length, drop, true, false, IsTrue, IfOk, IfErr, IsOkAnd};
 ghost use Rattle.gor_bits.specs.BitString.{BitString};
+ghost use Rattle.gor_model.specs.declared.point.Point.{Point};
 ghost use Rattle.gor_model.specs.Windows.{window_length};
-ghost use Rattle.gor_model.specs.Codes.{first_width};
-ghost use Rattle.gor_times.specs.Times.{TimeMark, IsInside, IsNext, IsTimeAt, IsTimeFault, IsFirstFault, IsFaultBehind, first_mark, mark_after, next_code};
+ghost use Rattle.gor_model.specs.Codes.{first_width, Begins};
+ghost use Rattle.gor_times.specs.Times.{TimeMark, IsInside, IsNext, IsTimeAt, IsExactly, IsTimeFault, IsFirstFault, IsFaultBehind, first_mark, mark_after, mark_of, next_code, code_behind};
 
 use crate::change::{read_change, write_change};
 use crate::fault::TimeFault;
@@ -68,11 +69,15 @@ impl TimeState {
     }
 
     /// Writes the code of `time` behind the bits. It takes no memory.
+    ///
+    /// The code is the model's for the points before, and with whatever follows it begins with no other next time's code.
     pub fn write(&mut self, bits: &mut Bits, time: u64)
         requires room { 36 ≤ bits.old.spare }
         requires next { IsNext self.old time }
         ensures state { self.new ≡ mark_after self.old time }
         ensures bits { bits.new ≡ record { bits = bits.old.bits ++ next_code self.old time; spare = bits.old.spare - length (next_code self.old time) } }
+        ensures alone { (other : ℕ) → IsNext self.old other → (after : List Bool) → Begins (next_code self.old other) (next_code self.old time ++ after) → other ≡ time }
+        ensures model { (points : List Point) → self.old ≡ mark_of self.old.unit self.old.window (map (λ p. p.time) points) → next_code self.old time ≡ code_behind self.old.unit self.old.window points time }
     {
         let difference = time - self.last;
         if self.begun {
@@ -87,10 +92,12 @@ impl TimeState {
 
     /// The time whose code stands at `at`, the place behind the code and the state after it. It takes no memory.
     ///
-    /// A fault comes exactly where no such code stands; it is the first that holds, at the code's first bit.
+    /// A fault comes exactly where no such code stands; it is the first that holds, at the code's first bit. What
+    /// was written is what is read, whatever follows.
     pub fn read(&self, bits: &Bits, at: usize) -> Result<(u64, usize, TimeState), TimeFault>
         ensures ok { IfOk result (λ read. IsTimeAt self.now (drop at bits.now.bits) at read.0 read.1 read.2) }
         ensures err { IfErr result (IsTimeFault self.now at (drop at bits.now.bits)) }
+        ensures found { (time : ℕ) → IsNext self.now time → Begins (next_code self.now time) (drop at bits.now.bits) → IsOkAnd result (λ read. IsExactly self.now at time read.0 read.1 read.2) }
     {
         if self.begun {
             self.read_behind(bits, at)

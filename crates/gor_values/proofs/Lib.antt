@@ -1,3 +1,5 @@
+pub mod Apart
+pub mod Found
 pub mod Marks
 pub mod Pushes
 pub mod Readings

@@ -25,7 +25,7 @@ stands_more all at n k a b s t =
     let f : take n (spelled (n + k) b) ≡ spelled n (b / 2 ^ k) = ap (take n) (spelled-append n k b) ∙ take_at (spelled n (b / 2 ^ k)) (spelled k b) n (length-spelled n (b / 2 ^ k)) in
     spelled_apart n (b / 2 ^ k) a (shr_below b n k t.fits) s.fits (sym f ∙ e)
 
-length-head : (a b : ℕ) → length ((true ∷ true ∷ []) ++ bits 5 a ++ bits 6 b) ≡ 13
+pub length-head : (a b : ℕ) → length ((true ∷ true ∷ []) ++ bits 5 a ++ bits 6 b) ≡ 13
 length-head a b = omega (arith, length-append ((true ∷ true ∷ []) ++ bits 5 a) (bits 6 b), length-append (true ∷ true ∷ []) (bits 5 a), length-bits 5 a, length-bits 6 b)
 
 -- a set first bit is no unchanged word, and `10` is no new window
@@ -51,7 +51,7 @@ pub first_of_two : (rest : List Bool) (b : Bool) → take 2 rest ≡ true ∷ b 
 first_of_two rest b e = sym (take-take 1 2 rest (omega arith)) ∙ ap (take 1) e
 
 -- `11` is no code of a word that fits
-held_is_not : (w : Option ValueWindow) (rest : List Bool) (x : ℕ) → take 2 rest ≡ true ∷ true ∷ [] → x ≢ 0 → fits x w ≡ true → Begins (changed_code w x) rest → ⊥
+pub held_is_not : (w : Option ValueWindow) (rest : List Bool) (x : ℕ) → take 2 rest ≡ true ∷ true ∷ [] → x ≢ 0 → fits x w ≡ true → Begins (changed_code w x) rest → ⊥
 held_is_not None rest x front some fit begins = absurd (let g : ◌≡◌ {A = Bool} false true = fit in cc)
 held_is_not (Some v) rest x front some fit begins =
     absurd (let g : ◌≡◌ {A = List Bool} (true ∷ true ∷ []) (true ∷ false ∷ []) = sym front ∙ front_of_held v rest x some fit begins in cc)
@@ -169,7 +169,7 @@ head_is a b small few =
     ∙ ap₂ (λ (xs ys : List Bool). xs ++ ys) (spelled-join 2 5 3 a few ∙ ap (λ (xs : List Bool). (true ∷ true ∷ []) ++ xs) (same_bits 5 a)) (same_bits 6 b)
 
 -- a front names its two numbers
-heads_apart : (a b a' b' : ℕ) → a < 32 → b < 64 → a' < 32 → b' < 64 → (true ∷ true ∷ []) ++ bits 5 a ++ bits 6 b ≡ (true ∷ true ∷ []) ++ bits 5 a' ++ bits 6 b' → (a ≡ a') × (b ≡ b')
+pub heads_apart : (a b a' b' : ℕ) → a < 32 → b < 64 → a' < 32 → b' < 64 → (true ∷ true ∷ []) ++ bits 5 a ++ bits 6 b ≡ (true ∷ true ∷ []) ++ bits 5 a' ++ bits 6 b' → (a ≡ a') × (b ≡ b')
 heads_apart a b a' b' p q p' q' e =
     let same : (96 + a) * 64 + b ≡ (96 + a') * 64 + b' =
     spelled_apart 13 ((96 + a) * 64 + b) ((96 + a') * 64 + b') (omega arith) (omega arith) (head_is a b q p ∙ e ∙ sym (head_is a' b' q' p')) in

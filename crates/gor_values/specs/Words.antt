@@ -1,5 +1,5 @@
 -- Words behind a running state: what a block's words so far leave for the next one.
-use Rattle.std.specs.Prelude.{◌≡◌, ℕ, ◌+◌, ◌-◌, ◌*◌, ◌%◌, ◌<◌, ◌≤◌, ◌^◌, List, [], ◌∷◌, ◌++◌, length, Bool, true, false, bit_xor, Option, None, Some, if◌then◌else◌}
+use Rattle.std.specs.Prelude.{◌≡◌, ℕ, ◌+◌, ◌-◌, ◌*◌, ◌%◌, ◌<◌, ◌≤◌, ◌^◌, List, [], ◌∷◌, ◌++◌, length, Bool, true, false, bit_xor, Option, None, Some, if◌then◌else◌, ⊤}
 use Rattle.gor_model.specs.Codes.{bits, Begins, ValueWindow, window_after, window_for, fits, changed_code}
 use Rattle.gor_values.specs.declared.fault.ValueFault.{ValueFault}
 use Rattle.gor_values.specs.declared.fault.ValueFault.TheVariants.{Short, Spelling}
@@ -29,6 +29,11 @@ mark_of (word ∷ older) = mark_after (mark_of older) word
 -- the code of the next word
 abbrev pub next_code : ValueMark → ℕ → List Bool
 next_code m word = if m.begun then changed_code m.window (bit_xor word m.last) else bits 64 word
+
+-- the value window lies in a word
+abbrev pub IsInWord : Option ValueWindow → Type 0
+IsInWord None = ⊤
+IsInWord (Some w) = w.lead + w.len ≤ 64
 
 -- ---- reading
 
@@ -74,6 +79,12 @@ pub record IsWordAt (m : ValueMark) (rest : List Bool) (at word next : ℕ) (aft
   pub begins : Begins (next_code m word) rest
   pub place : next ≡ at + length (next_code m word)
   pub within : length (next_code m word) ≤ length rest
+  pub state : after ≡ mark_after m word
+
+-- a reader gave this word, the place behind its code and the state after it, and nothing else
+pub record IsExactly (m : ValueMark) (at word read next : ℕ) (after : ValueMark) : Type 0 where
+  pub same : read ≡ word
+  pub place : next ≡ at + length (next_code m word)
   pub state : after ≡ mark_after m word
 
 -- the word that a window of so many bits and a piece behind `11` make

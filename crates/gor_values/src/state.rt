@@ -1,7 +1,7 @@
-ghost use Rattle.std.specs.Prelude.{◌≡◌, ℕ, ◌+◌, ◌-◌, ◌*◌, ◌/◌, ◌^◌, ◌<◌, ◌≤◌, ◌++◌, length, drop, true, false, bit_xor, IfOk, IfErr};
+ghost use Rattle.std.specs.Prelude.{◌≡◌, ℕ, ◌+◌, ◌-◌, ◌*◌, ◌/◌, ◌^◌, ◌<◌, ◌≤◌, ◌++◌, length, drop, true, false, bit_xor, List, Bool, IfOk, IfErr, IsOkAnd};
 ghost use Rattle.gor_bits.specs.BitString.{BitString};
-ghost use Rattle.gor_model.specs.Codes.{changed_code, window_after};
-ghost use Rattle.gor_values.specs.Words.{ValueMark, first_mark, mark_after, next_code, window_shown, IsWordAt, IsValueFault, IsNoChange, IsFirstFault};
+ghost use Rattle.gor_model.specs.Codes.{Begins, changed_code, window_after, value_code};
+ghost use Rattle.gor_values.specs.Words.{ValueMark, first_mark, mark_after, mark_of, next_code, window_shown, IsWordAt, IsExactly, IsValueFault, IsNoChange, IsFirstFault};
 
 use crate::change::{is_held, read_changed};
 use crate::fault::ValueFault;
@@ -18,11 +18,14 @@ pub struct ValueState {
 }
 
 impl Model for ValueState {
+    ghost use Rattle.std.specs.Prelude.{◌^◌, ◌<◌};
     ghost use Rattle.gor_values.specs.Words.{ValueMark, window_shown};
 
     ghost Value = { ValueMark };
 
     ghost view = { λ s. record { begun = s.begun; last = s.last; window = window_shown s.window } };
+
+    ghost invariant = { λ s. s.last < 2 ^ 64 };
 }
 
 /// Writes the code of a change under a window, and gives the window after it.
@@ -82,10 +85,14 @@ impl ValueState {
     }
 
     /// Writes the code of `word` behind the bits. It takes no memory.
+    ///
+    /// The code is the model's for the words before, and with whatever follows it begins with no other word's code.
     pub fn write(&mut self, bits: &mut Bits, word: u64)
         requires { 77 ≤ bits.old.spare }
         ensures state { self.new ≡ mark_after self.old word }
         ensures bits { bits.new ≡ record { bits = bits.old.bits ++ next_code self.old word; spare = bits.old.spare - length (next_code self.old word) } }
+        ensures alone { (other : ℕ) → other < 2 ^ 64 → (after : List Bool) → Begins (next_code self.old other) (next_code self.old word ++ after) → other ≡ word }
+        ensures model { (words : List ℕ) → self.old ≡ mark_of words → next_code self.old word ≡ value_code words word }
     {
         if self.begun {
             self.window = write_changed(bits, self.window, word ^ self.last);
@@ -97,10 +104,12 @@ impl ValueState {
     }
     /// The word whose code stands at `at`, the place behind the code and the state after it. It takes no memory.
     ///
-    /// A fault comes exactly where no code of a word stands; it is the first that holds, at the code's first bit.
+    /// A fault comes exactly where no code of a word stands; it is the first that holds, at the code's first bit. What was
+    /// written is what is read, whatever follows.
     pub fn read(&self, bits: &Bits, at: usize) -> Result<(u64, usize, ValueState), ValueFault>
         ensures ok { IfOk result (λ read. IsWordAt self.now (drop at bits.now.bits) at read.0 read.1 read.2) }
         ensures err { IfErr result (IsValueFault self.now at (drop at bits.now.bits)) }
+        ensures found { (word : ℕ) → word < 2 ^ 64 → Begins (next_code self.now word) (drop at bits.now.bits) → IsOkAnd result (λ read. IsExactly self.now at word read.0 read.1 read.2) }
     {
         if self.begun {
             self.read_behind(bits, at)

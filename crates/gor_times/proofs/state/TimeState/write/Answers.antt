@@ -1,11 +1,12 @@
-use Rattle.std.proofs.Common.{◌≡◌, ℕ, List, ◌++◌, ◌-◌, Bool, length, ap, ap₂, sym, ◌∙◌}
+use Rattle.std.proofs.Common.{◌≡◌, ℕ, List, ◌++◌, ◌-◌, Bool, length, ap, ap₂, sym, subst, ◌∙◌}
 use Rattle.gor_bits.specs.BitString.{BitString}
 use Rattle.gor_bits.specs.Spelled.{spelled}
 use Rattle.gor_bits.proofs.Words.{length-spelled}
 use Rattle.gor_model.specs.declared.unit.Unit.{Unit as TimeUnit}
 use Rattle.gor_model.specs.Codes.{bits, first_width, time_code}
-use Rattle.gor_times.specs.Times.{TimeMark, next_code}
+use Rattle.gor_times.specs.Times.{TimeMark, IsInside, next_code}
 use Rattle.gor_times.proofs.Fields.{same_bits}
+use Rattle.gor_times.proofs.Found.{next_alone, next_time}
 use Rattle.gor_times.proofs.TimeLaws.{next_behind, next_first}
 use Rattle.gor_times.proofs.state.TimeState.write.Goals as goal
 use Rattle.gor_times.proofs.state.TimeState.write.Goals.{then-self, else-self}
@@ -38,3 +39,11 @@ returns-clause-bits c =
           let size : w.width_of.result ≡ length (next_code m c.args.time) = sym (length-spelled w.width_of.result now) ∙ ap length is in
           w.bits-is ∙ w.push_reserved.ensures ∙ appended old (spelled w.width_of.result now) (next_code m c.args.time) w.width_of.result is size
     ]
+
+pub returns-clause-alone : goal.returns-clause-alone
+returns-clause-alone c =
+    let inside : IsInside c.args.self.now = subst (λ (k : TimeMark). IsInside k) c.self.view_is c.self.invariant in
+    λ other next after h. next_alone c.args.self.now after c.args.time other inside c.requires.next next h
+
+pub returns-clause-model : goal.returns-clause-model
+returns-clause-model c = λ points is. ap (λ (m : TimeMark). next_code m c.args.time) is ∙ next_time c.args.self.now.unit c.args.self.now.window points c.args.time

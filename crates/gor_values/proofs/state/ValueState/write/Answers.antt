@@ -1,8 +1,9 @@
-use Rattle.std.proofs.Common.{◌≡◌, ℕ, Bool, true, false, refl, ap, ap₂, sym, ◌∙◌}
+use Rattle.std.proofs.Common.{◌≡◌, ℕ, Bool, true, false, refl, ap, ap₂, sym, subst, ◌∙◌}
 use Rattle.std.specs.Prelude.{Option, bit_xor}
 use Rattle.gor_model.specs.Codes.{bits, ValueWindow, changed_code}
 use Rattle.gor_values.specs.Words.{ValueMark, window_shown, next_code}
 use Rattle.gor_values.proofs.Pushes.{follows, follows_as}
+use Rattle.gor_values.proofs.Found.{IsSound, next_alone, next_value, shown_in_word}
 use Rattle.gor_values.proofs.state.ValueState.write.Goals as goal
 use Rattle.gor_values.proofs.state.ValueState.write.Goals.{then-self, else-self}
 
@@ -29,3 +30,11 @@ returns-clause-bits c =
           let is : bits 64 c.args.word ≡ next_code m c.args.word = sym (next_first m c.args.word (sym begun ∙ w.if-self.false)) in
           w.bits-is ∙ follows_as old _ (bits 64 c.args.word) (next_code m c.args.word) (follows old _ 64 c.args.word w.push_reserved.ensures) is
     ]
+
+pub returns-clause-alone : goal.returns-clause-alone
+returns-clause-alone c =
+    let sound : IsSound c.args.self.now = subst (λ (k : ValueMark). IsSound k) c.self.view_is (record { last = c.self.invariant; window = shown_in_word c.self.inside.window }) in
+    λ other small after h. next_alone c.args.self.now after c.args.word other sound c.ranges.word.fits small h
+
+pub returns-clause-model : goal.returns-clause-model
+returns-clause-model c = λ words is. ap (λ (m : ValueMark). next_code m c.args.word) is ∙ next_value words c.args.word
