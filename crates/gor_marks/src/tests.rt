@@ -80,3 +80,23 @@ fn home_faults(rt: HostRuntime) {
         );
     }
 }
+
+#[test]
+fn sealed_marks_have_one_length(rt: HostRuntime) {
+    // The mark, and a byte behind its fields.
+    let mut long = [0; 23];
+    long[..22].copy_from_slice(&SEALED);
+    let rows: [(&[u8], u64, Wrong); 5] = [
+        (&[], 0, Wrong::Version),
+        (&SEALED[..1], 0, Wrong::Short),
+        (&SEALED[..2], 0, Wrong::Short),
+        (&SEALED[..21], 0, Wrong::Short),
+        (&long, 22, Wrong::Extra),
+    ];
+    for (body, at, kind) in rows {
+        assert!(rt;
+            read_mark(body, false) == Err(MarkFault::Wrong { at, kind }),
+            "at {at}"
+        );
+    }
+}
