@@ -1,0 +1,11 @@
+pub mod Finding
+pub mod Lists
+pub mod MarkLaws
+pub mod CodeLaws
+pub mod DecodedLaws
+pub mod BlockLaws
+pub mod Readings
+pub mod Padding
+pub mod ChainLaws
+pub mod BytesLaws
+pub mod Copies

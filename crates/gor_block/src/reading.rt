@@ -1,0 +1,58 @@
+// The points of some bits, one after another.
+ghost use Rattle.std.specs.Prelude.{◌≡◌, ℕ, ◌+◌, ◌≤◌, reverse, IsOk, IfOk, IfErr};
+ghost use Rattle.gor_block.specs.Decoded.{decoded, IsWhole, IsRead};
+ghost use Rattle.gor_block.specs.Faults.{IsNoCode};
+
+use crate::fault::BlockFault;
+use crate::running::Running;
+use gor_bits::Bits;
+use gor_model::{Points, Unit};
+use std::alloc::{AllocError, Global};
+
+/// The place behind so many points, and what they leave for the next one.
+#[derive(Drop)]
+pub struct Ending {
+    pub at: usize,
+    pub running: Running,
+}
+
+/// The points that stand at the front of the bits, in one pass.
+pub fn points_of(
+    alloc: Global,
+    unit: Unit,
+    window: u32,
+    count: u32,
+    bits: &Bits,
+) -> Result<Points, AllocError>
+    requires { IsWhole unit window count bits.now.bits }
+    ensures { IfOk result (λ points. points ≡ reverse (decoded unit window count bits.now.bits)) }
+{
+    let mut points = Points::new(alloc);
+    let mut running = Running::new(unit, window);
+    let mut at = 0;
+    for _ in 0..count {
+        let Ok(step) = running.read(bits, at) else {
+            unreachable!();
+        };
+        points.push(step.point)?;
+        at = step.next;
+        running = step.after;
+    }
+    Ok(points)
+}
+
+/// Reads so many points from the front of the bits. It takes no memory.
+pub fn read_through(unit: Unit, window: u32, count: u32, bits: &Bits) -> Result<Ending, BlockFault>
+    ensures ok { IfOk result (λ ending. IsRead unit window count bits.now.bits ending.at ending.running) }
+    ensures err { IfErr result (IsNoCode unit window count bits.now.bits) }
+    ensures found { IsWhole unit window count bits.now.bits → IsOk result }
+{
+    let mut running = Running::new(unit, window);
+    let mut at = 0;
+    for _ in 0..count {
+        let step = running.read(bits, at)?;
+        at = step.next;
+        running = step.after;
+    }
+    Ok(Ending { at, running })
+}
