@@ -1,0 +1,14 @@
+pub mod Ends
+pub mod Points
+pub mod Later
+pub mod Copies
+pub mod Results
+pub mod Moves
+pub mod Cells
+pub mod Filters
+pub mod Ranges
+pub mod Picks
+pub mod Rises
+pub mod Places
+pub mod Seals
+pub mod ByShares

@@ -1,0 +1,4 @@
+pub mod Packed
+pub mod Stands
+pub mod Steps
+pub mod Blocks
