@@ -1,0 +1,3 @@
+pub mod BlockSteps
+pub mod Firsts
+pub mod Getting

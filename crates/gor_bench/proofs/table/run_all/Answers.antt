@@ -1,0 +1,9 @@
+use Rattle.std.proofs.Common.{slice_index_or, subst}
+use Rattle.gor_hall.specs.declared.pass.Pass.{Pass}
+use Rattle.gor_plain.specs.Lanes.{IsBack}
+use Rattle.gor_bench.proofs.table.run_all.Goals as goal
+
+pub returns-clause-back : goal.returns-clause-back
+returns-clause-back g c i d low =
+    let t = (c.for_each_mut.ensures i d low).1 in
+    subst (λ (y : Pass). IsBack c.args.hall.now (slice_index_or c.args.passes.now i d) y) t.left (subst (λ (x : Pass). IsBack c.args.hall.now x t.after_call.now) t.argument_is t.call)

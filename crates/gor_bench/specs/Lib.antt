@@ -1,0 +1,3 @@
+pub mod FourSeries
+pub mod Gets
+pub mod Steps

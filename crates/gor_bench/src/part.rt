@@ -1,0 +1,47 @@
+use crate::fault::Fault;
+use crate::report::Report;
+use crate::{blocks, cell, codes, table};
+use std::alloc::Global;
+use std::sync::Wait;
+use std::thread::Threads;
+use std::time::Clock;
+
+/// What a word of the command measures.
+#[derive(Clone, Copy, Debug, PartialEq, Eq)]
+pub enum Part {
+    /// `codes`: the codes of times and words, each way.
+    Codes,
+    /// `blocks`: blocks, pushed and decoded.
+    Blocks,
+    /// `cell`: a day of a cell, put, copied and decoded.
+    Cell,
+    /// `table`: a hall's take, mark and give.
+    Table,
+}
+
+impl Part {
+    /// The part of a word, if it has one.
+    pub fn of(word: &str) -> Option<Part> {
+        match word {
+            "codes" => Some(Part::Codes),
+            "blocks" => Some(Part::Blocks),
+            "cell" => Some(Part::Cell),
+            "table" => Some(Part::Table),
+            _ => None,
+        }
+    }
+
+    /// Measures it.
+    pub fn measure<R: Threads + Wait + Sync + Clock>(
+        self,
+        rt: &R,
+        alloc: Global,
+    ) -> Result<Report, Fault> {
+        match self {
+            Part::Codes => codes::measure(rt, alloc),
+            Part::Blocks => blocks::measure(rt, alloc),
+            Part::Cell => cell::measure(rt, alloc),
+            Part::Table => table::measure(rt, alloc),
+        }
+    }
+}
