@@ -1,0 +1,3 @@
+mod ByteLaws
+mod ShareLaws
+mod EventSteps
