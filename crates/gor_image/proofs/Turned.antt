@@ -1,0 +1,190 @@
+-- The mark law: the new files hold the state that the old files hold.
+use Rattle.std.proofs.Common.{◌≡◌, ℕ, ◌+◌, ◌<◌, ◌≤◌, List, [], ◌∷◌, ◌++◌, true, Option, Some, None, refl, sym, ap, ◌∙◌, subst, arith, option_map}
+use Rattle.std.specs.Prelude.{filter, filter_map, map}
+use Rattle.std.specs.List.{AllByRecursion}
+use Rattle.std.specs.Option.{option_or}
+use Rattle.std.proofs.lemmas.List.Elements.{filter_map-append}
+use Rattle.std.proofs.lemmas.Grind.{flat_map-append}
+use Rattle.std.proofs.lemmas.List.{map-append}
+use Rattle.gor_model.specs.Windows.{slots_of_a_shard}
+use Rattle.gor_model.specs.declared.event.Change.{Change}
+use Rattle.gor_model.specs.Windows.{window_end}
+use Rattle.gor_model.specs.Names.{key_of}
+use Rattle.gor_model.specs.declared.start.Row.{Row}
+use Rattle.gor_model.specs.declared.start.Start.{Start}
+use Rattle.gor_model.specs.Starts.{row_in}
+use Rattle.gor_model.specs.PlainMap.{greatest}
+use Rattle.gor_keys.specs.declared.record.KeyRecord.{KeyRecord}
+use Rattle.gor_log.specs.declared.record.LogRecord.{LogRecord}
+use Rattle.gor_image.specs.Records.{Placed, Batch, BlockRow, Base, Files}
+use Rattle.gor_image.specs.Recovery.{Names, ShardMap, recovered, read_name, read_each, no_names, counts, counted_keys, number_in, log_records, points_of, filled, floor_of, floor_end, base_end, next_of}
+use Rattle.gor_image.specs.Holding.{Stand, RiseAbove, BatchesRise, IsUidBelow, IsKeyUidBelow, rows_of}
+use Rattle.gor_image.proofs.Core.{Rises}
+use Rattle.gor_image.proofs.Lists.{all_weaker, all_filter}
+use Rattle.gor_image.proofs.Append.{all_both}
+use Rattle.gor_image.proofs.Reading.{each_plain, read_plain}
+use Rattle.gor_image.proofs.AppendLaw.{below_greatest, greatest_bound, least_greatest, numbers_map, filter_all, all_map, map_all}
+use Rattle.gor_image.proofs.Stale.{right_all}
+use Rattle.gor_image.proofs.MarkLaw.{WindowRises, IsInFile, HasNoneBehind, IsCopied, is_live}
+use Rattle.gor_image.proofs.Opening.{Fits, fits, rows_apart, rows_found, rows_are, read}
+use Rattle.gor_image.proofs.TurnLaw.{turned_row, bare, live_record, AreFree, LiveRead, live_read}
+
+-- the new files, against the old ones under the same names: a mark with this window, and `upto` for the changes before it
+pub record Turned (old new : Files) (names : Names) (w upto : ℕ) : Type 0 where
+  pub fresh : List BlockRow
+  pub dropped : List Batch
+  pub base : new.base ≡ record { window = Some w; upto = upto }
+  pub later : WindowRises old.base.window w
+  pub key_list : map (λ r. r.it) new.keys ≡ map live_record (rows_of (recovered old names))
+  pub blocks : new.blocks ≡ filter (is_live w) old.blocks ++ fresh
+  pub logs : old.batches ≡ dropped ++ new.batches
+  pub all_taken : next_of old ≡ upto + 1
+  -- what the finish has made sure of
+  pub none_behind : AllByRecursion (HasNoneBehind w) (log_records dropped)
+  pub shard_at_end : (recovered old names).floor ≡ window_end w
+  pub rows_at_end : (k : List ℕ) (r : Row) → (recovered old names).row k ≡ Some r → r.floor ≡ window_end w
+  pub copied : (k : List ℕ) (r : Row) → names.row k ≡ Some r → IsCopied old.base w upto r.uid old.blocks fresh (log_records dropped) (log_records new.batches)
+  pub rising : (k : List ℕ) (r : Row) → names.row k ≡ Some r → Rises (points_of new.base new.blocks (log_records new.batches) r.uid)
+  pub fresh_uids : AllByRecursion (λ b. b.uid < next_of old) fresh
+  -- what files say by their grammars
+  pub in_file : AllByRecursion IsInFile old.blocks
+  pub low_slots : (k : List ℕ) (r : Row) → (recovered old names).row k ≡ Some r → r.slot < slots_of_a_shard
+  pub keyed : (k : List ℕ) (r : Row) → (recovered old names).row k ≡ Some r → k ≡ key_of r.name
+
+suffix_batches : (n : ℕ) (xs ys : List Batch) → BatchesRise n (xs ++ ys) → BatchesRise 0 ys
+suffix_batches n [] [] rise = tt
+suffix_batches n [] (y ∷ ys) rise = (let h = rise.0 in omega arith, rise.1, rise.2)
+suffix_batches n (x ∷ xs) ys rise = suffix_batches x.last xs ys rise.2
+
+no_numbers : (rows : List (List ℕ × Row)) → filter_map number_in (map live_record rows) ≡ []
+no_numbers [] = refl
+no_numbers (r ∷ rows) = no_numbers rows
+
+all_live : (base : Base) (batches : List Batch) (rows : List (List ℕ × Row)) → AllByRecursion (λ r. counts base batches r ≡ true) (map live_record rows)
+all_live base batches [] = tt
+all_live base batches (r ∷ rows) = (refl, all_live base batches rows)
+
+option_or-none : {X : Type 0} (o : Option X) → option_or o None ≡ o
+option_or-none None = refl
+option_or-none (Some x) = refl
+
+none_free : (rows : List (List ℕ × Row)) → AreFree no_names rows
+none_free [] = tt
+none_free (r ∷ rows) = ((refl, refl), none_free rows)
+
+module _ (old new : Files) (start : Start) (C : List Change) (stand : Stand old start C) (w upto : ℕ) (turned : Turned old new stand.names w upto) where
+  m : ShardMap
+  m = recovered old stand.names
+
+  log_is : log_records old.batches ≡ log_records turned.dropped ++ log_records new.batches
+  log_is = ap log_records turned.logs ∙ flat_map-append (λ (b : Batch). map (λ r. r.it) b.records) turned.dropped new.batches
+
+  fit_map : Fits (recovered old stand.names)
+  fit_map = fits old stand.names 0 stand.recover stand.fit turned.low_slots
+
+  names_read : LiveRead no_names (rows_of (recovered old stand.names))
+  names_read = live_read (rows_of (recovered old stand.names)) no_names (rows_apart (recovered old stand.names) fit_map)
+      (all_weaker (λ (r : List ℕ × Row). (recovered old stand.names).row r.0 ≡ Some r.1) (λ (r : List ℕ × Row). r.0 ≡ key_of r.1.name) (rows_of (recovered old stand.names)) (λ r is. turned.keyed r.0 r.1 is) (rows_are (recovered old stand.names)))
+      (none_free (rows_of (recovered old stand.names)))
+
+  names_are : (q : List ℕ) → names_read.after.row q ≡ option_map bare ((recovered old stand.names).row q)
+  names_are q = names_read.rows_are q ∙ option_or-none (option_map bare (row_in (rows_of (recovered old stand.names)) q))
+      ∙ ap (option_map bare) (rows_found (recovered old stand.names) fit_map turned.low_slots q)
+
+  one_row : (k : List ℕ) (x : Row) → stand.names.row k ≡ Some x → filled new.base new.blocks (log_records new.batches) (bare (filled old.base old.blocks (log_records old.batches) x)) ≡ filled old.base old.blocks (log_records old.batches) x
+  one_row k x is =
+      subst (λ (b : Base). filled b new.blocks (log_records new.batches) (bare (filled old.base old.blocks (log_records old.batches) x)) ≡ filled old.base old.blocks (log_records old.batches) x) (sym turned.base)
+      (subst (λ (bs : List BlockRow). filled (record { window = Some w; upto = upto }) bs (log_records new.batches) (bare (filled old.base old.blocks (log_records old.batches) x)) ≡ filled old.base old.blocks (log_records old.batches) x) (sym turned.blocks)
+      (subst (λ (l : List LogRecord). filled (record { window = Some w; upto = upto }) (filter (is_live w) old.blocks ++ turned.fresh) (log_records new.batches) (bare (filled old.base old.blocks l x)) ≡ filled old.base old.blocks l x) (sym log_is)
+      (turned_row old.base w upto old.blocks turned.fresh (log_records turned.dropped) (log_records new.batches) x turned.later turned.in_file turned.none_behind (turned.copied k x is)
+      (subst (λ (l : List LogRecord). Rises (points_of old.base old.blocks l x.uid)) log_is (stand.recover.rising k x is))
+      (subst (λ (l : List LogRecord). (filled old.base old.blocks l x).floor ≡ window_end w) log_is
+      (turned.rows_at_end k (filled old.base old.blocks (log_records old.batches) x) (ap (option_map (filled old.base old.blocks (log_records old.batches))) is))))))
+
+  rows_same : (q : List ℕ) → (recovered new names_read.after).row q ≡ (recovered old stand.names).row q
+  rows_same q = ap (option_map (filled new.base new.blocks (log_records new.batches))) (names_are q) ∙ by (stand.names.row q) refl where
+    by : (o : Option Row) → stand.names.row q ≡ o
+        → option_map (filled new.base new.blocks (log_records new.batches)) (option_map bare (option_map (filled old.base old.blocks (log_records old.batches)) o)) ≡ option_map (filled old.base old.blocks (log_records old.batches)) o
+    by None is = refl
+    by (Some x) is = ap Some (one_row q x is)
+
+  floor_same : floor_of new.base (log_records new.batches) ≡ floor_of old.base (log_records old.batches)
+  floor_same = ap (λ (b : Base). floor_of b (log_records new.batches)) turned.base ∙ omega (arith, high, low, turned.shard_at_end) where
+    floors_low : AllByRecursion (λ f. f ≤ window_end w) (filter_map floor_end (log_records new.batches))
+    floors_low = subst (λ m. AllByRecursion (λ f. f ≤ m) (filter_map floor_end (log_records new.batches))) turned.shard_at_end
+        (right_all (λ f. f ≤ floor_of old.base (log_records old.batches)) (filter_map floor_end (log_records turned.dropped)) (filter_map floor_end (log_records new.batches))
+        (subst (λ l. AllByRecursion (λ f. f ≤ floor_of old.base (log_records old.batches)) l) (ap (filter_map floor_end) log_is ∙ filter_map-append floor_end (log_records turned.dropped) (log_records new.batches))
+        (below_greatest (base_end old.base.window) (filter_map floor_end (log_records old.batches)))))
+
+    high : greatest (window_end w) (filter_map floor_end (log_records new.batches)) ≤ window_end w
+    high = greatest_bound (window_end w) (window_end w) (filter_map floor_end (log_records new.batches)) (omega arith) floors_low
+
+    low : window_end w ≤ greatest (window_end w) (filter_map floor_end (log_records new.batches))
+    low = least_greatest (window_end w) (filter_map floor_end (log_records new.batches))
+
+  new_numbers : filter_map (λ (r : Placed KeyRecord). number_in r.it) new.keys ≡ []
+  new_numbers = numbers_map new.keys ∙ ap (filter_map number_in) turned.key_list ∙ no_numbers (rows_of (recovered old stand.names))
+
+  next_same : next_of new ≡ next_of old
+  next_same = ap (λ l. greatest (greatest new.base.upto (map (λ (b : Batch). b.last) new.batches)) l + 1) new_numbers
+      ∙ ap (λ (b : Base). greatest b.upto (map (λ (b : Batch). b.last) new.batches) + 1) turned.base ∙ omega (arith, high, low, turned.all_taken) where
+        lasts : AllByRecursion (λ l. l ≤ upto) (map (λ (b : Batch). b.last) new.batches)
+        lasts = all_weaker (λ l. l ≤ greatest old.base.upto (map (λ (b : Batch). b.last) old.batches)) (λ l. l ≤ upto) (map (λ (b : Batch). b.last) new.batches)
+            (λ l h. let more = least_greatest (greatest old.base.upto (map (λ (b : Batch). b.last) old.batches)) (filter_map (λ (r : Placed KeyRecord). number_in r.it) old.keys) in let e = turned.all_taken in omega arith)
+            (right_all (λ l. l ≤ greatest old.base.upto (map (λ (b : Batch). b.last) old.batches)) (map (λ (b : Batch). b.last) turned.dropped) (map (λ (b : Batch). b.last) new.batches)
+            (subst (λ l. AllByRecursion (λ x. x ≤ greatest old.base.upto (map (λ (b : Batch). b.last) old.batches)) l)
+            (ap (map (λ (b : Batch). b.last)) turned.logs ∙ map-append (λ (b : Batch). b.last) turned.dropped new.batches) (below_greatest old.base.upto (map (λ (b : Batch). b.last) old.batches))))
+
+        high : greatest upto (map (λ (b : Batch). b.last) new.batches) ≤ upto
+        high = greatest_bound upto upto (map (λ (b : Batch). b.last) new.batches) (omega arith) lasts
+
+        low : upto ≤ greatest upto (map (λ (b : Batch). b.last) new.batches)
+        low = least_greatest upto (map (λ (b : Batch). b.last) new.batches)
+
+  counted_all : counted_keys new ≡ new.keys
+  counted_all = filter_all (λ (r : Placed KeyRecord). counts new.base new.batches r.it) new.keys
+      (all_map (λ r. counts new.base new.batches r ≡ true) (λ (r : Placed KeyRecord). r.it) new.keys
+      (subst (λ l. AllByRecursion (λ r. counts new.base new.batches r ≡ true) l) (sym turned.key_list) (all_live new.base new.batches (rows_of (recovered old stand.names)))))
+
+  row_uid : (k : List ℕ) (r : Row) → (recovered old stand.names).row k ≡ Some r → r.uid < next_of old
+  row_uid k r is = by (stand.names.row k) refl is where
+    by : (o : Option Row) → stand.names.row k ≡ o → option_map (filled old.base old.blocks (log_records old.batches)) o ≡ Some r → r.uid < next_of old
+    by None e is' = absurd (let both : None ≡ Some r = is' in cc)
+    by (Some x) e is' = let it : filled old.base old.blocks (log_records old.batches) x ≡ r = cc in
+        subst (λ (y : Row). y.uid < next_of old) it ((read old stand.names 0 stand.recover stand.fit turned.low_slots).below k x e)
+
+  live_uids : AllByRecursion (IsKeyUidBelow (next_of old)) (map live_record (rows_of (recovered old stand.names)))
+  live_uids = map_all (IsKeyUidBelow (next_of old)) live_record (rows_of (recovered old stand.names))
+      (all_weaker (λ (r : List ℕ × Row). (recovered old stand.names).row r.0 ≡ Some r.1) (λ (r : List ℕ × Row). r.1.uid < next_of old) (rows_of (recovered old stand.names)) (λ r is. row_uid r.0 r.1 is) (rows_are (recovered old stand.names)))
+
+  -- the new files hold the same state, are fit, and have the same next number
+  pub mark_law : Stand new start C
+  mark_law = record {
+    names = names_read.after;
+    recover = record {
+      numbers = subst (RiseAbove new.base.upto) (sym new_numbers) tt;
+      batches = suffix_batches 0 turned.dropped new.batches (subst (BatchesRise 0) turned.logs stand.recover.batches);
+      reads = ap (read_each read_name no_names) counted_all ∙ each_plain read_name no_names names_read.after new.keys (ap (read_plain read_name no_names) turned.key_list ∙ names_read.read);
+      rising = λ k r is. new_rising k r (sym (names_are k) ∙ is);
+    };
+    holds = record { floor = floor_same ∙ stand.holds.floor; rows = λ q. rows_same q ∙ stand.holds.rows q };
+    fit = record {
+      floors = λ q r is. let at : r.floor ≡ window_end w = turned.rows_at_end q r (sym (rows_same q) ∙ is) in
+          let high : floor_of new.base (log_records new.batches) ≡ window_end w = floor_same ∙ turned.shard_at_end in
+          let low : base_end new.base.window ≡ window_end w = ap (λ (b : Base). base_end b.window) turned.base in (omega arith, omega arith);
+      uids_differ = λ k l r o is_r is_o same. stand.fit.uids_differ k l r o (sym (rows_same k) ∙ is_r) (sym (rows_same l) ∙ is_o) same;
+      key_uids = all_map (IsKeyUidBelow (next_of new)) (λ (r : Placed KeyRecord). r.it) new.keys
+          (subst (λ l. AllByRecursion (IsKeyUidBelow (next_of new)) l) (sym turned.key_list) (subst (λ n. AllByRecursion (IsKeyUidBelow n) (map live_record (rows_of (recovered old stand.names)))) (sym next_same) live_uids));
+      log_uids = subst (λ n. AllByRecursion (IsUidBelow n) (log_records new.batches)) (sym next_same)
+          (right_all (IsUidBelow (next_of old)) (log_records turned.dropped) (log_records new.batches) (subst (λ l. AllByRecursion (IsUidBelow (next_of old)) l) log_is stand.fit.log_uids));
+      block_uids = subst (λ n. AllByRecursion (λ (b : BlockRow). b.uid < n) new.blocks) (sym next_same) (subst (λ l. AllByRecursion (λ (b : BlockRow). b.uid < next_of old) l) (sym turned.blocks)
+          (all_both (λ (b : BlockRow). b.uid < next_of old) (filter (is_live w) old.blocks) turned.fresh (all_filter (λ (b : BlockRow). b.uid < next_of old) (is_live w) old.blocks stand.fit.block_uids) turned.fresh_uids));
+    };
+    next = let e = next_same in let n = stand.next in omega arith;
+  } where
+    new_rising : (k : List ℕ) (r : Row) → option_map bare ((recovered old stand.names).row k) ≡ Some r → Rises (points_of new.base new.blocks (log_records new.batches) r.uid)
+    new_rising k r is = by (stand.names.row k) refl is where
+      by : (o : Option Row) → stand.names.row k ≡ o → option_map bare (option_map (filled old.base old.blocks (log_records old.batches)) o) ≡ Some r → Rises (points_of new.base new.blocks (log_records new.batches) r.uid)
+      by None e is' = absurd (let both : None ≡ Some r = is' in cc)
+      by (Some x) e is' = let it : bare (filled old.base old.blocks (log_records old.batches) x) ≡ r = cc in
+          subst (λ (y : Row). Rises (points_of new.base new.blocks (log_records new.batches) y.uid)) it (turned.rising k x e)

@@ -1,0 +1,10 @@
+pub mod Records
+pub mod Recovery
+pub mod Holding
+pub mod ChangeRecords
+pub mod Blocks
+pub mod Grammars
+pub mod Images
+pub mod Fit
+pub mod Appends
+pub mod Laws

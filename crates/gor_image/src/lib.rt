@@ -1,0 +1,20 @@
+//! What the files of a shard recover to, and what it is that an image of its disk holds a state and is fit.
+//!
+//! An image is the bytes of each file of a shard's disk, as a crash may leave them. What it recovers to is a function of
+//! these bytes, which reads gated files through their lists of bodies alone; so what leaves the lists as they were leaves
+//! the map as it was. The function is a chain of checks, of which the first that fails is the answer, over a part that says
+//! what the records mean where nothing is wrong with them.
+//!
+//! - `fault`: what may be wrong with an image.
+//! - `laws`: what appends may rely on. A body behind the current key list, and one behind the current log, go on from the
+//!   state that the image holds by exactly the changes that they spell; key records that no batch covers change nothing.
+//!
+//! The definitions stand in `specs/`: `Records` and `Recovery` (the meaning of records that are in order), `Grammars` and
+//! `Blocks` (bodies and block files as records with their places), `Images` (the chain of checks), `Holding` and `Fit`
+//! (what an image holds, and when it is fit to be written on), and `ChangeRecords` (the records of changes).
+#![tactic(auto)]
+
+mod fault;
+pub mod laws;
+
+pub use fault::{DamageKind, ImageFault};
