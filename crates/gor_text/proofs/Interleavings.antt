@@ -1,10 +1,10 @@
 -- From the answers of each lane in each phase, and one legal history for each shard with its numbers, the text is a transcript.
-use Rattle.std.proofs.Common.{◌≡◌, ◌≢◌, ◌⊎◌, inl, inr, ℕ, zero, suc, ◌+◌, ◌<◌, ◌≤◌, List, [], ◌∷◌, ◌++◌, length, Some, Bool, true, false, refl, sym, ap, subst, ◌∙◌, arith}
-use Rattle.std.specs.Prelude.{map, filter, flat_map, reverse, nat_eq, nat_le, slice_get, IsPermutation, ⊤}
+use Rattle.std.proofs.Common.{◌≡◌, inl, inr, ℕ, zero, suc, ◌+◌, ◌<◌, ◌≤◌, List, [], ◌∷◌, ◌++◌, length, Some, Bool, true, false, refl, sym, ap, subst, ◌∙◌, arith}
+use Rattle.std.specs.Prelude.{map, filter, reverse, nat_eq, nat_le, slice_get, IsPermutation}
 use Rattle.std.specs.List.{AllByRecursion, range_with_len}
 use Rattle.std.proofs.lemmas.Bool.{le-leb, leb-true, leb-false, eqb-true, eqb-false}
 use mathlib.Core.List.{reverse-cons}
-use Rattle.std.proofs.lemmas.List.{append_assoc, append-nil, reverse-append, length-reverse, length-append, map-append}
+use Rattle.std.proofs.lemmas.List.{append_assoc, reverse-append, length-reverse, length-append, map-append}
 use Rattle.std.proofs.lemmas.List.Sorted.{IsPermutation-refl, IsPermutation-sym, IsPermutation-trans, IsPermutation-cons, IsPermutation-middle, IsPermutation-append, IsPermutation-append_right, IsPermutation-map}
 use Rattle.gor_model.specs.Lists.{EachBefore}
 use Rattle.gor_model.specs.declared.event.Event.{Event}
@@ -13,8 +13,8 @@ use Rattle.gor_model.specs.Changes.{History}
 use Rattle.gor_model.specs.Answers.{Legal}
 use Rattle.gor_text.specs.declared.workload.Line.{Line}
 use Rattle.gor_text.specs.LineAnswers.{Act}
-use Rattle.gor_text.specs.Transcripts.{Served, Printed, Rises, StandsIn, IsPrinted, printed_from, printed_lanes, printed_line, text_of, FinishSeals, Transcript}
-use Rattle.gor_text.specs.Interleaved.{printed_events, of_lane, LanesPrint, PhaseMade, PhasesMade}
+use Rattle.gor_text.specs.Transcripts.{Served, Printed, Rises, StandsIn, IsPrinted, printed_from, printed_lanes, text_of, FinishSeals, Transcript}
+use Rattle.gor_text.specs.Interleaved.{printed_events, of_lane, LanesPrint, PhasesMade}
 
 -- ---- lists
 
@@ -83,15 +83,17 @@ wider phase low high less more below above p w = record { phase_is = w.phase_is;
 
 within : (phase n high : ℕ) (events : List Event) → high ≡ n + length events → AllByRecursion (Within phase n high) (printed_events phase n events)
 within phase n high [] is = tt
-within phase n high (e ∷ later) is =
-    (record { phase_is = refl; above = omega arith; below = omega (arith, is) },
-    all-map (Within phase (n + 1) high) (Within phase n high) (wider phase (n + 1) high n high (omega arith) (omega arith)) (printed_events phase (n + 1) later) (within phase (n + 1) high later (is ∙ omega arith)))
+within phase n high (e ∷ later) is = (
+  record { phase_is = refl; above = omega arith; below = omega (arith, is) },
+  all-map (Within phase (n + 1) high) (Within phase n high) (wider phase (n + 1) high n high (omega arith) (omega arith)) (printed_events phase (n + 1) later) (within phase (n + 1) high later (is ∙ omega arith)),
+)
 
 numbers_rise : (phase n : ℕ) (events : List Event) → EachBefore (λ p q. p.number < q.number) (printed_events phase n events)
 numbers_rise phase n [] = tt
-numbers_rise phase n (e ∷ later) =
-    (all-map (Within phase (n + 1) (n + 1 + length later)) (λ q. n < q.number) (λ q w. omega (arith, w.above)) (printed_events phase (n + 1) later) (within phase (n + 1) (n + 1 + length later) later refl),
-    numbers_rise phase (n + 1) later)
+numbers_rise phase n (e ∷ later) = (
+  all-map (Within phase (n + 1) (n + 1 + length later)) (λ q. n < q.number) (λ q w. omega (arith, w.above)) (printed_events phase (n + 1) later) (within phase (n + 1) (n + 1 + length later) later refl),
+  numbers_rise phase (n + 1) later,
+)
 
 numbers_are : (phase n : ℕ) (events : List Event) → map (λ p. p.number) (printed_events phase n events) ≡ range_with_len n (length events)
 numbers_are phase n [] = refl
@@ -109,9 +111,10 @@ at_length (x ∷ xs) e ys n is = rw is (at_length xs e ys (length xs) refl)
 events_stand : (whole : History) (phase : ℕ) (front events back : List Event) (n : ℕ) → n ≡ length front → reverse whole ≡ front ++ (events ++ back)
     → AllByRecursion (StandsIn whole) (printed_events phase n events)
 events_stand whole phase front [] back n is turned = tt
-events_stand whole phase front (e ∷ later) back n is turned =
-    (record { event = e; at = rw turned (at_length front e (later ++ back) n is); lane = refl; call = refl; reply = refl },
-    events_stand whole phase (front ++ e ∷ []) later back (n + 1) (ap (λ k. k + 1) is ∙ sym (length-append front (e ∷ []))) (turned ∙ sym (append_assoc front (e ∷ []) (later ++ back))))
+events_stand whole phase front (e ∷ later) back n is turned = (
+  record { event = e; at = rw turned (at_length front e (later ++ back) n is); lane = refl; call = refl; reply = refl },
+  events_stand whole phase (front ++ e ∷ []) later back (n + 1) (ap (λ k. k + 1) is ∙ sym (length-append front (e ∷ []))) (turned ∙ sym (append_assoc front (e ∷ []) (later ++ back))),
+)
 
 -- ---- the lanes of a phase hold its events, each once
 
@@ -149,8 +152,8 @@ lanes_hold shard phase lane [] made count is below prints =
     rw (none_from lane made (all-map (λ p. p.lane < count) (λ p. p.lane < lane) (λ p b. omega (arith, b, is)) made below)) (IsPermutation-refl [])
 lanes_hold shard phase lane (lines ∷ lanes) made count is below prints =
     rw (prints.0) (IsPermutation-trans _ _ _
-        (IsPermutation-append_right (filter (of_lane lane) made) _ _ (lanes_hold shard phase (lane + 1) lanes made count (is ∙ omega arith) below prints.1))
-        (split_lane lane made))
+    (IsPermutation-append_right (filter (of_lane lane) made) _ _ (lanes_hold shard phase (lane + 1) lanes made count (is ∙ omega arith) below prints.1))
+    (split_lane lane made))
 
 -- ---- the numbers of a lane rise, and those of another lane of the phase are not compared
 
@@ -174,7 +177,7 @@ lanes_from shard phase lane low high (lines ∷ lanes) made all prints =
     all-append (FromLane phase lane low high) _ _
     (rw (prints.0) (all-map (InLane phase lane low high) (FromLane phase lane low high) (λ p w. record { later_lane = omega (arith, w.in_lane); inside = w.inside }) (filter (of_lane lane) made) (one_lane phase lane low high made all)))
     (all-map (FromLane phase (lane + 1) low high) (FromLane phase lane low high) (λ p w. record { later_lane = omega (arith, w.later_lane); inside = w.inside }) (printed_lanes shard phase (lane + 1) lanes)
-        (lanes_from shard phase (lane + 1) low high lanes made all prints.1))
+    (lanes_from shard phase (lane + 1) low high lanes made all prints.1))
 
 apart : (phase lane low high : ℕ) (p q : Printed) → InLane phase lane low high p → FromLane phase (lane + 1) low high q → Rises p q
 apart phase lane low high p q one other (inl before) = absurd (omega (arith, before, one.inside.phase_is, other.inside.phase_is))
@@ -217,10 +220,10 @@ run_behind shard phase H (lanes ∷ phases) whole made =
     let longer = length-news news H in
     all-append (Behind phase (length H)) (printed_lanes shard phase 0 lanes) (printed_from shard (phase + 1) phases)
     (lanes_keep (Behind phase (length H)) shard phase 0 lanes (printed_events phase (length H) (reverse news))
-        (all-map (Within phase (length H) (length H + length (reverse news))) (Behind phase (length H)) (λ p w. record { later_phase = omega (arith, w.phase_is); above = w.above }) (printed_events phase (length H) (reverse news))
-            (within phase (length H) (length H + length (reverse news)) (reverse news) refl)) made.1.printed)
+    (all-map (Within phase (length H) (length H + length (reverse news))) (Behind phase (length H)) (λ p w. record { later_phase = omega (arith, w.phase_is); above = w.above }) (printed_events phase (length H) (reverse news))
+    (within phase (length H) (length H + length (reverse news)) (reverse news) refl)) made.1.printed)
     (all-map (Behind (phase + 1) (length (news ++ H))) (Behind phase (length H)) (λ p w. record { later_phase = omega (arith, w.later_phase); above = omega (arith, w.above, longer) }) (printed_from shard (phase + 1) phases)
-        (run_behind shard (phase + 1) (news ++ H) phases whole made.2))
+    (run_behind shard (phase + 1) (news ++ H) phases whole made.2))
 
 later_phases : (phase low high : ℕ) (p q : Printed) → Within phase low high p → Behind (phase + 1) high q → Rises p q
 later_phases phase low high p q one later either = omega (arith, one.below, later.above)
@@ -259,7 +262,7 @@ run_stands shard phase H (lanes ∷ phases) whole made =
     let later = whole_extends shard (phase + 1) (news ++ H) phases whole made.2 in
     all-append (StandsIn whole) (printed_lanes shard phase 0 lanes) (printed_from shard (phase + 1) phases)
     (lanes_keep (StandsIn whole) shard phase 0 lanes (printed_events phase (length H) (reverse news))
-        (events_stand whole phase (reverse H) (reverse news) (reverse later.0) (length H) (sym (length-reverse H)) (turned whole later.0 news H later.1)) made.1.printed)
+    (events_stand whole phase (reverse H) (reverse news) (reverse later.0) (length H) (sym (length-reverse H)) (turned whole later.0 news H later.1)) made.1.printed)
     (run_stands shard (phase + 1) (news ++ H) phases whole made.2)
 
 all-reverse : {X : Type 0} (P : X → Type 0) (xs : List X) → AllByRecursion P xs → AllByRecursion P (reverse xs)
@@ -281,15 +284,15 @@ run_numbers shard phase H (lanes ∷ phases) whole count made is =
     let behind : length whole ≡ length later.0 + length (news ++ H) = ap length later.1 ∙ length-append later.0 (news ++ H) in
     let rest : count ≡ more + length later.0 = omega (arith, longer, behind, is) in
     let here : IsPermutation (map (λ p. p.number) (printed_lanes shard phase 0 lanes)) (range_with_len (length H) more) =
-        subst (IsPermutation (map (λ p. p.number) (printed_lanes shard phase 0 lanes))) (numbers_are phase (length H) (reverse news))
-        (IsPermutation-map (λ p. p.number) _ _
-            (subst (IsPermutation (printed_lanes shard phase 0 lanes)) (all_from events)
-            (lanes_hold shard phase 0 lanes events (length lanes) (omega arith) (lanes_below phase (length H) (length lanes) (reverse news) (all-reverse (λ e. e.lane < length lanes) news made.1.in_lanes)) made.1.printed))) in
+    subst (IsPermutation (map (λ p. p.number) (printed_lanes shard phase 0 lanes))) (numbers_are phase (length H) (reverse news))
+    (IsPermutation-map (λ p. p.number) _ _
+    (subst (IsPermutation (printed_lanes shard phase 0 lanes)) (all_from events)
+    (lanes_hold shard phase 0 lanes events (length lanes) (omega arith) (lanes_below phase (length H) (length lanes) (reverse news) (all-reverse (λ e. e.lane < length lanes) news made.1.in_lanes)) made.1.printed))) in
     let there : IsPermutation (map (λ p. p.number) (printed_from shard (phase + 1) phases)) (range_with_len (length H + more) (length later.0)) =
-        subst (λ k. IsPermutation (map (λ p. p.number) (printed_from shard (phase + 1) phases)) (range_with_len k (length later.0))) longer
-        (run_numbers shard (phase + 1) (news ++ H) phases whole (length later.0) made.2 (omega (arith, behind))) in
+    subst (λ k. IsPermutation (map (λ p. p.number) (printed_from shard (phase + 1) phases)) (range_with_len k (length later.0))) longer
+    (run_numbers shard (phase + 1) (news ++ H) phases whole (length later.0) made.2 (omega (arith, behind))) in
     rw rest (rw (map-append (λ p. p.number) (printed_lanes shard phase 0 lanes) (printed_from shard (phase + 1) phases)) (rw (range-append (length H) more (length later.0))
-        (IsPermutation-append _ _ _ _ here there)))
+    (IsPermutation-append _ _ _ _ here there)))
 
 pub is_printed : (start : Start) (shard : ℕ) (phases : List (List (List Served))) (whole : History) → PhasesMade shard 0 [] phases whole → Legal start whole
     → IsPrinted start (printed_from shard 0 phases) whole

@@ -5,5 +5,4 @@ pub mod Lines
 pub mod Readings
 pub mod Spellings
 pub mod TextRows
-pub mod PlainRun
 pub mod Interleavings

@@ -38,7 +38,7 @@ fn value(base: u64, text: &[u8]) -> Option<u64>
 }
 
 /// A decimal number below 2^64 that does not begin with a 0 of no need.
-pub(crate) fn number(text: &[u8]) -> Option<u64>
+pub fn read_number(text: &[u8]) -> Option<u64>
     ensures { result ≡ number_of text.now }
 {
     match text {
@@ -64,6 +64,6 @@ pub(crate) fn lane(text: &[u8]) -> Option<u32>
     ensures value { result ≡ lane_of text.now }
     ensures below { IfSome result (λ n. n < 8) }
 {
-    let lane = number(text)?;
+    let lane = read_number(text)?;
     if lane < 8 { Some(lane as u32) } else { None }
 }

@@ -3,7 +3,7 @@ ghost use Rattle.std.specs.Str.{is_utf8};
 ghost use Rattle.gor_text.specs.Workloads.{HasLane};
 ghost use Rattle.gor_text.specs.Grammar.{words_of, one_of, two_of, three_of, is_named, put_of, get_of, del_of, flush_of, finish_of, merge_of, names_of, line_of, said_of, spelled_of, item_of};
 
-use crate::fields::{first_word, lane, number, word};
+use crate::fields::{first_word, lane, read_number, word};
 use crate::{Item, Line, Names};
 use gor_model::Bytes;
 use std::alloc::{AllocError, Global};
@@ -54,7 +54,7 @@ fn put_line(alloc: Global, words: &[u8]) -> Result<Option<Line>, AllocError>
     let Some((name, time, bits)) = three_words(words) else {
         return Ok(None);
     };
-    let (Some(time), Some(word)) = (number(time), word(bits)) else {
+    let (Some(time), Some(word)) = (read_number(time), word(bits)) else {
         return Ok(None);
     };
     match named(alloc, name)? {
@@ -70,7 +70,7 @@ fn get_line(alloc: Global, words: &[u8]) -> Result<Option<Line>, AllocError>
     let Some((name, from, to)) = three_words(words) else {
         return Ok(None);
     };
-    let (Some(from), Some(to)) = (number(from), number(to)) else {
+    let (Some(from), Some(to)) = (read_number(from), read_number(to)) else {
         return Ok(None);
     };
     match named(alloc, name)? {
@@ -96,7 +96,7 @@ fn del_line(alloc: Global, words: &[u8]) -> Result<Option<Line>, AllocError>
 fn flush_line(words: &[u8]) -> Option<Line>
     ensures { result ≡ flush_of (words_of words.now) }
 {
-    let shard = number(one_word(words)?)?;
+    let shard = read_number(one_word(words)?)?;
     Some(Line::Flush { shard })
 }
 
@@ -105,8 +105,8 @@ fn finish_line(words: &[u8]) -> Option<Line>
     ensures { result ≡ finish_of (words_of words.now) }
 {
     let (shard, window) = two_words(words)?;
-    let shard = number(shard)?;
-    let window = number(window)?;
+    let shard = read_number(shard)?;
+    let window = read_number(window)?;
     Some(Line::Finish { shard, window })
 }
 
@@ -140,7 +140,7 @@ fn merge_line(alloc: Global, words: &[u8]) -> Result<Option<Line>, AllocError>
     let (to, Some(words)) = first_word(words) else {
         return Ok(None);
     };
-    let (Some(from), Some(to)) = (number(from), number(to)) else {
+    let (Some(from), Some(to)) = (read_number(from), read_number(to)) else {
         return Ok(None);
     };
     match names(alloc, words)? {

@@ -16,6 +16,7 @@ pub mod workload;
 
 pub use accept::{Accepts, EveryLine};
 pub use answer::{LaneAnswer, Reason, What};
+pub use fields::read_number;
 pub use merged::MergedPoints;
 pub use reader::{TextFault, read_accepted, read_workload};
 pub use spelling::write_answer;

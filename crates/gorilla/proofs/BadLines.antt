@@ -1,5 +1,5 @@
 -- An input is good, or has one first bad line.
-use Rattle.std.proofs.Common.{◌≡◌, ℕ, suc, ◌≤◌, List, [], ◌∷◌, ◌++◌, length, Option, Some, None, Bool, true, false, refl, sym, ap, subst, ◌∙◌, arith, append-nil}
+use Rattle.std.proofs.Common.{◌≡◌, ℕ, suc, List, [], ◌∷◌, ◌++◌, length, Option, Some, None, Bool, true, false, refl, sym, ap, subst, ◌∙◌, arith, append-nil}
 use Rattle.std.specs.Prelude.{map}
 use Rattle.std.specs.List.{list_all}
 use Rattle.std.specs.Io.KnownBytes.{Consumes, IsAtEnd}
@@ -8,11 +8,8 @@ use Rattle.gor_text.specs.declared.workload.Line.{Line}
 use Rattle.gor_text.specs.declared.workload.Item.{Item}
 use Rattle.gor_text.specs.Grammar.{lines_of, item_of}
 use Rattle.gor_text.specs.Workloads.{is_good_line, IsWorkloadText, IsFirstBad}
-use Rattle.gorilla.specs.FirstLines.{is_first_item, is_first_line}
-use Rattle.gorilla.specs.Shelves.{first_lane, one_lane}
+use Rattle.gorilla.specs.PointLines.{is_point_item}
 use Rattle.gorilla.specs.Inputs.{IsWhole}
-use Rattle.gorilla.specs.Runs.{IsAnswerTo}
-use Rattle.gorilla.proofs.Taking.{first_text}
 
 -- a source that tells its bytes was read to just these
 pub same_input : (before after : Option (List ℕ)) (bytes input : List ℕ) → IsWhole before after bytes → before ≡ Some input → bytes ≡ input
@@ -57,21 +54,5 @@ all_good accepts (line ∷ lines) (item ∷ items) said accepted =
     let parts = and_parts (accepts item) (list_all accepts items) accepted in
     and_from (is_good_line accepts line) (list_all (is_good_line accepts) lines) (good_one accepts line item here parts.0) (all_good accepts lines items rest parts.1)
 
-pub answered_has_none : (input text : List ℕ) (n : ℕ) → IsAnswerTo input text → IsFirstBad is_first_item input n → ⊥
-answered_has_none input text n answer b = good_has_none is_first_item input n (all_good is_first_item (lines_of input) answer.said.items answer.said.said answer.said.accepted) b
-
--- the phases of an input that is taken are its first lane
-pub record IsFirstLane (input : List ℕ) (phases : List (List (List Line))) (lines : List Line) : Type 0 where
-  pub phased : phases ≡ one_lane lines
-  pub taken : list_all is_first_line lines ≡ true
-  pub few : length lines ≤ length input
-
-pub first_lane_is : (input : List ℕ) (phases : List (List (List Line))) (lines : List Line) → lines ≡ first_lane phases → IsWorkloadText is_first_item input phases → IsFirstLane input phases lines
-first_lane_is input phases lines is text =
-    let first = first_text input phases text in
-    let own : first.0 ≡ lines = sym (ap first_lane first.1.phased) ∙ sym is in
-    record {
-      phased = first.1.phased ∙ ap one_lane own;
-      taken = subst (λ ls. list_all is_first_line ls ≡ true) own first.1.taken;
-      few = subst (λ ls. length ls ≤ length input) own first.1.few;
-    }
+pub said_has_none : (input : List ℕ) (phases : List (List (List Line))) (n : ℕ) → IsWorkloadText is_point_item input phases → IsFirstBad is_point_item input n → ⊥
+said_has_none input phases n said b = good_has_none is_point_item input n (all_good is_point_item (lines_of input) said.items said.said said.accepted) b

@@ -1,8 +1,11 @@
 pub mod KnownParts
 pub mod OutputParts
 pub mod InputParts
-pub mod ShelfLaws
-pub mod FirstRun
-pub mod Taking
-pub mod AnswerSteps
+pub mod PointRun
+pub mod LineSteps
+pub mod LoopSteps
+pub mod Taken
 pub mod BadLines
+pub mod RunSteps
+pub mod ShareSteps
+pub mod ShardSteps

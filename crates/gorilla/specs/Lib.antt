@@ -1,7 +1,9 @@
 pub mod Inputs
 pub mod Outputs
 pub mod Words
-pub mod FirstLines
-pub mod Shelves
+pub mod PointLines
+pub mod Serving
+pub mod Shards
+pub mod Answering
 pub mod Runs
 pub mod Statuses

@@ -1,13 +1,13 @@
-//! An in-memory store of time series: it reads a workload from standard input and writes what a plain map from names to
-//! points answers to it.
+//! An in-memory store of time series: it reads a workload from standard input, runs it on a shard in memory, and writes the
+//! answers.
 #![tactic(auto)]
 
 mod answers;
-mod first_lines;
 mod input;
 mod output;
+mod point_lines;
 pub mod program;
-mod shelf;
+mod shard;
 pub mod status;
 mod streams;
 #[cfg(test)]

@@ -1,3 +1,6 @@
+ghost use Rattle.std.specs.Prelude.{◌≡◌};
+ghost use Rattle.gorilla.specs.Statuses.{number_of};
+
 use std::fmt;
 
 /// How a run ended.
@@ -21,7 +24,9 @@ pub enum Status {
 
 impl Status {
     /// The number with which the process ends.
-    pub fn number(self) -> u8 {
+    pub fn number(self) -> u8
+        ensures { result ≡ number_of self }
+    {
         match self {
             Status::Ok => 0,
             Status::Words => 2,
