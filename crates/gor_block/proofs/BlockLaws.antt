@@ -12,7 +12,7 @@ use Rattle.gor_model.specs.PlainMap.{last_of}
 use Rattle.gor_model.specs.Codes.{block_bits}
 use Rattle.gor_times.specs.Times.{IsNext}
 use Rattle.gor_block.specs.Marks.{PointMark, mark_of, mark_after, first_mark, next_code, IsNextPoint, IsChain}
-use Rattle.gor_block.specs.Decoded.{decoded, IsHeld, IsBehind, IsRead}
+use Rattle.gor_block.specs.Decoded.{decoded, IsHeld, IsRead}
 use Rattle.gor_block.specs.PointBlock.{PointBlock, IsBlock, MayFollow, followed}
 use Rattle.gor_block.proofs.Finding.{begins_as, begins_whole, reaches}
 use Rattle.gor_block.proofs.Lists.{reverse-more, all_reverse, each_reverse, before_more, last_of-more}
@@ -129,9 +129,6 @@ held_of u w points count bits m all h =
 
 pub code_of_held : (u : TimeUnit) (w count : ℕ) (bits : List Bool) (m : PointMark) → IsHeld u w count bits m → IsCodeOf u w (decoded u w count bits) bits m
 code_of_held u w count bits m h = record { limit = h.limit; coded = h.coded; chain = h.chain; marked = h.marked }
-
-pub behind_held : (u : TimeUnit) (w count : ℕ) (bits : List Bool) (m : PointMark) → IsHeld u w count bits m → IsBehind u w count m
-behind_held u w count bits m h = record { points = decoded u w count bits; all = length-decoded u w count bits; chain = h.chain; marked = h.marked }
 
 pub code_more : (u : TimeUnit) (w : ℕ) (points : List Point) (p : Point) (bits : List Bool) (m : PointMark) → IsCodeOf u w points bits m → IsNextPoint m p →
     IsCodeOf u w (p ∷ points) (bits ++ next_code m p) (mark_after m p)

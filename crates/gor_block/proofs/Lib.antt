@@ -8,4 +8,3 @@ pub mod Readings
 pub mod Padding
 pub mod ChainLaws
 pub mod BytesLaws
-pub mod Copies

@@ -59,10 +59,3 @@ pub record IsRead (u : TimeUnit) (w count : ℕ) (bits : List Bool) (at : ℕ) (
   pub whole : IsWhole u w count bits
   pub place : at ≡ length (block_bits u w (decoded u w count bits))
   pub marked : mark ≡ mark_of u w (decoded u w count bits)
-
--- the mark is that of so many points
-pub record IsBehind (u : TimeUnit) (w count : ℕ) (mark : PointMark) : Type 0 where
-  pub points : List Point
-  pub all : length points ≡ count
-  pub chain : IsChain u w points
-  pub marked : mark ≡ mark_of u w points

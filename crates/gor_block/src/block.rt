@@ -119,16 +119,12 @@ impl Block {
     pub fn copy(&self) -> Result<Block, AllocError>
         ensures { IfOk result (λ block. IsSame block self.now) }
     {
-        let bits = self.bits.copy()?;
-        let running = self
-            .running
-            .copy(self.alloc, self.unit, self.window, self.count)?;
         Ok(Block {
             unit: self.unit,
             window: self.window,
             count: self.count,
-            bits,
-            running,
+            bits: self.bits.copy()?,
+            running: self.running.copy(),
             alloc: self.alloc,
         })
     }

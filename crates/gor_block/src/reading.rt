@@ -16,7 +16,7 @@ pub struct Ending {
     pub running: Running,
 }
 
-/// The points that stand at the front of the bits, in one pass.
+/// The points that stand at the front of the bits, in one pass, with memory for exactly these points taken first.
 pub fn points_of(
     alloc: Global,
     unit: Unit,
@@ -27,7 +27,7 @@ pub fn points_of(
     requires { IsWhole unit window count bits.now.bits }
     ensures { IfOk result (λ points. points ≡ reverse (decoded unit window count bits.now.bits)) }
 {
-    let mut points = Points::new(alloc);
+    let mut points = Points::with_room(alloc, count as usize)?;
     let mut running = Running::new(unit, window);
     let mut at = 0;
     for _ in 0..count {

@@ -38,6 +38,15 @@ impl Points {
         }
     }
 
+    /// No points, with room for `count` of them: so many pushes take no memory. It answers `AllocError` where memory is wanting.
+    pub fn with_room(alloc: Global, count: usize) -> Result<Self, AllocError>
+        ensures { IfOk result (λ points. points ≡ []) }
+    {
+        Ok(Points {
+            items: Vec::with_capacity(alloc, count)?,
+        })
+    }
+
     /// The points in order.
     pub fn as_slice(&self) -> &[Point]
         ensures { result.now ≡ self.now }
@@ -120,7 +129,7 @@ mod tests {
     }
 
     fn two_points(alloc: Global) -> Result<Points, AllocError> {
-        with(with(Points::new(alloc), 7199, 1)?, 7200, 2)
+        with(with(Points::with_room(alloc, 2)?, 7199, 1)?, 7200, 2)
     }
 
     #[test]

@@ -68,6 +68,19 @@ impl TimeState {
         }
     }
 
+    /// The same state once more.
+    pub fn copy(&self) -> TimeState
+        ensures { result ≡ self.now }
+    {
+        TimeState {
+            unit: self.unit,
+            window: self.window,
+            begun: self.begun,
+            last: self.last,
+            difference: self.difference,
+        }
+    }
+
     /// Writes the code of `time` behind the bits. It takes no memory.
     ///
     /// The code is the model's for the points before, and with whatever follows it begins with no other next time's code.

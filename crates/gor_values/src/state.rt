@@ -84,6 +84,17 @@ impl ValueState {
         }
     }
 
+    /// The same state once more.
+    pub fn copy(&self) -> ValueState
+        ensures { result ≡ self.now }
+    {
+        ValueState {
+            begun: self.begun,
+            last: self.last,
+            window: self.window,
+        }
+    }
+
     /// Writes the code of `word` behind the bits. It takes no memory.
     ///
     /// The code is the model's for the words before, and with whatever follows it begins with no other word's code.

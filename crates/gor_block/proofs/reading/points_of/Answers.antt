@@ -8,7 +8,7 @@ use Rattle.gor_block.proofs.reading.points_of.Goals as goal
 pub loop-init : goal.loop-init
 loop-init c = record {
   read = read_none c.args.unit c.args.window c.args.bits.now.bits c.new-running.result (c.new-running.ensures ∙ sym (mark_of-none c.args.unit c.args.window));
-  points = c.new-points.ensures ∙ ap {B = List Point} (λ (xs : List Point). reverse xs) (sym (decoded_none c.args.unit c.args.window c.args.bits.now.bits));
+  points = c.in_ok-points.ensures ∙ ap {B = List Point} (λ (xs : List Point). reverse xs) (sym (decoded_none c.args.unit c.args.window c.args.bits.now.bits));
 }
 
 pub unreachable-requires : goal.unreachable-requires
