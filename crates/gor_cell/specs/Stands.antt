@@ -1,9 +1,11 @@
 -- When a cell stands for the share of its series.
-use Rattle.std.specs.Prelude.{◌≡◌, ◌≤◌, length, Option, Some, None, ⊤}
+use Rattle.std.specs.Prelude.{◌≡◌, ◌≤◌, ℕ, length, Option, Some, None, ⊤}
 use Rattle.std.specs.List.{AllByRecursion}
 use Rattle.gor_model.specs.Names.{key_of}
 use Rattle.gor_model.specs.Codes.{BlockCode}
-use Rattle.gor_model.specs.Shares.{SeriesShare}
+use Rattle.gor_model.specs.Shares.{SeriesShare, Share, OfSlot}
+use Rattle.gor_model.specs.declared.start.Start.{Start}
+use Rattle.gor_cell.specs.declared.cell.Cell.{Cell}
 use Rattle.gor_block.specs.PointBlock.{PointBlock, code_of}
 use Rattle.gor_cell.specs.Packed.{Packed, blocks_of, points_in}
 
@@ -27,6 +29,11 @@ Stands None None = ⊤
 Stands None (Some share) = ⊥
 Stands (Some s) None = ⊥
 Stands (Some s) (Some share) = StandsFor s share
+
+-- as the value of an object: whatever the start and the object's number, the share is that of a slot
+abbrev pub cell_stands : Start → ℕ → Cell → Share → Type 0
+cell_stands start o cell (OfSlot share) = Stands cell.live share
+cell_stands start o cell _ = ⊥
 
 -- a fact of the share that a live cell stands for
 abbrev pub ByShare : Option Packed → (SeriesShare → Type 0) → Type 0

@@ -10,6 +10,7 @@ use crate::cell_put::CellPut;
 use crate::copied::{Copied, SealedBlocks};
 use crate::live::LiveCell;
 use gor_name::Name;
+use gor_rule::Thing;
 use std::alloc::{AllocError, Global};
 
 /// The series of one slot: vacant, or live.
@@ -20,6 +21,12 @@ pub struct Cell {
     /// The series; None where the cell is vacant.
     pub live: Option<LiveCell>,
     alloc: Global,
+}
+
+impl Thing for Cell {
+    ghost use Rattle.gor_cell.specs.Stands.{cell_stands};
+
+    ghost stands = { cell_stands };
 }
 
 impl Cell {

@@ -4,7 +4,8 @@ use Rattle.std.specs.List.{IsDistinct}
 use Rattle.std.specs.Map.{lookup, keys_of}
 use Rattle.std.specs.Str.{bytes_eq}
 use Rattle.gor_model.specs.Names.{key_of}
-use Rattle.gor_model.specs.Shares.{Entry, DirectoryShare}
+use Rattle.gor_model.specs.Shares.{Entry, DirectoryShare, Share, OfDirectory}
+use Rattle.gor_model.specs.declared.start.Start.{Start}
 use Rattle.gor_dir.specs.declared.row.DirRow.{DirRow}
 
 -- the shard's floor, the rows in some order, the free slots with the next one first, and how many rows more there is room for
@@ -28,6 +29,11 @@ shown directory = record { floor = directory.floor; entry = row_under directory.
 -- a directory stands for a share
 abbrev pub Stands : Listing → DirectoryShare → Type 0
 Stands directory share = shown directory ≡ share
+
+-- as the value of an object: whatever the start and the object's number, the share is that of a directory
+abbrev pub directory_stands : Start → ℕ → Listing → Share → Type 0
+directory_stands start o directory (OfDirectory share) = Stands directory share
+directory_stands start o directory _ = ⊥
 
 -- these rows are all of a share, and no two of them have one key
 pub record AreAll (share : DirectoryShare) (rows : List Entry) : Type 0 where

@@ -16,6 +16,7 @@ use crate::row::DirRow;
 use crate::rows::Rows;
 use gor_model::Unit;
 use gor_name::Name;
+use gor_rule::Thing;
 use std::alloc::{AllocError, Global};
 use std::marker::Model;
 
@@ -39,6 +40,12 @@ impl Model for Directory {
     ghost view = { λ d. record { floor = d.floor; rows = d.rows.rows; free = d.pool.free; spare = d.rows.spare } };
 
     ghost invariant = { λ d. IsKept d.rows.rows d.pool.free d.pool.capacity };
+}
+
+impl Thing for Directory {
+    ghost use Rattle.gor_dir.specs.Listings.{directory_stands};
+
+    ghost stands = { directory_stands };
 }
 
 #[tactic(auto, unfolding(crate::specs::Listings::shown))]

@@ -2,12 +2,13 @@
 use Rattle.std.specs.Prelude.{◌≡◌, ℕ, ◌+◌, ◌<◌, ◌≤◌, List, length, vec_capacity, vec_len, false}
 use Rattle.std.specs.List.{flat_map, AllByRecursion}
 use Rattle.gor_model.specs.AnswersByShares.{weight_by}
-use Rattle.gor_model.specs.Shares.{Buffered, JournalShare}
+use Rattle.gor_model.specs.Shares.{Buffered, JournalShare, Share, OfJournal}
+use Rattle.gor_model.specs.declared.start.Start.{Start}
 use Rattle.gor_model.specs.declared.unit.Unit.TheVariants.{Second}
 use Rattle.gor_keys.specs.Spelling.{AreRecords, record_spelling as key_spelling}
 use Rattle.gor_log.specs.Spelling.{IsRecord, record_spelling as log_spelling}
 use Rattle.gor_journal.specs.declared.buffers.Buffers.{Buffers}
-use Rattle.gor_journal.specs.Bodies.{Pending, stored, HasPlace}
+use Rattle.gor_journal.specs.Bodies.{Pending, Kept, stored, HasPlace}
 use Rattle.gor_journal.specs.Records.{key_records, log_records, greatest_window, keys_spelled, batch_spelled, first_number}
 
 -- the records are in the limits of their files
@@ -27,6 +28,11 @@ pub record Stands (p : Pending) (share : JournalShare) : Type 0 where
   pub keys : p.keys ≡ flat_map (key_spelling Second) (key_records (first_number share) share.buffered)
   pub log : p.log ≡ flat_map log_spelling (log_records share.buffered)
   pub limits : AreInLimits (first_number share) share.buffered
+
+-- as the value of an object: whatever the start and the object's number, the share is that of a journal
+abbrev pub journal_stands : Start → ℕ → Kept → Share → Type 0
+journal_stands start o journal (OfJournal share) = Stands journal.pending share
+journal_stands start o journal _ = ⊥
 
 -- these hold the bodies of some changes, the newest first, where the oldest of them has the number `first`
 pub record AreOf (first : ℕ) (waiting : List Buffered) (buffers : Buffers) : Type 0 where

@@ -11,6 +11,7 @@ ghost use Rattle.gor_journal.specs.Stands.{Stands, AreOf};
 use crate::buffers::Buffers;
 use crate::entry::{Entry, greater, key_need, log_need, weight_of, window_of};
 use crate::writing::{put_keys, put_log, put_range};
+use gor_rule::Thing;
 use std::alloc::{AllocError, Global};
 use std::marker::Model;
 use std::mem;
@@ -44,6 +45,12 @@ impl Model for Journal {
     } };
 
     ghost invariant = { λ j. IsWaiting j.buffers j.next };
+}
+
+impl Thing for Journal {
+    ghost use Rattle.gor_journal.specs.Stands.{journal_stands};
+
+    ghost stands = { journal_stands };
 }
 
 impl Journal {
