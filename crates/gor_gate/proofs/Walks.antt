@@ -1,10 +1,11 @@
 -- What walks over a file's front, and over what stands behind it.
-use Rattle.std.proofs.Common.{◌≡◌, ◌≢◌, ⊎_elim, ℕ, zero, suc, ◌+◌, ◌<◌, ◌≤◌, ◌^◌, true, false, List, [], ◌∷◌, ◌++◌, length, take, drop, slice_index, refl, sym, ◌∙◌, ap, arith, append_assoc, length-append, length-drop}
+use Rattle.std.proofs.Common.{◌≡◌, ◌≢◌, ⊎_elim, ℕ, zero, suc, ◌+◌, ◌<◌, ◌≤◌, ◌^◌, true, false, List, [], ◌∷◌, ◌++◌, length, take, drop, slice_index, refl, sym, ◌∙◌, ap, arith, append_assoc, length-append, length-drop, subst}
 use Rattle.std.proofs.lemmas.Bool.{cases_eq, cases_lt}
 use Rattle.std.proofs.lemmas.Bool.Decides.{nat_tests}
 use Rattle.std.proofs.lemmas.List.{take_at, drop_at, length-take-le, drop-take, get_or-drop}
 use Rattle.byteorder.specs.Numbers.{big_from-append, big_from-take, big_number-reads_back, length-bytes_high_first}
 use Rattle.gor_gate.specs.Gates.{eight, number_of, Walk, ended, joined, walk}
+use Rattle.gor_gate.specs.Bodies.{AreInside}
 
 pub length-eight : (n : ℕ) → length (eight n) ≡ 8
 unfolding eight
@@ -88,6 +89,22 @@ reach (suc n) at (g ∷ rest) = ⊎_elim
     ))
     (cases_lt (length rest) (8 + number_of rest)))
     (λ (shut : g ≢ 1). (0, record { end = ap (λ (w : Walk). w.end) (walk_shut (suc n) at g rest shut) ∙ omega arith; within = omega arith }))
+    (cases_eq g 1)
+
+-- each body of a walk ends within the bytes
+pub bodies_inside : (n at : ℕ) (s : List ℕ) (limit : ℕ) → at + length s < limit → AreInside limit (walk n at s).bodies
+bodies_inside zero at s limit fits = subst (λ (w : Walk). AreInside limit w.bodies) (sym (walk_none at s)) tt
+bodies_inside (suc n) at [] limit fits = subst (λ (w : Walk). AreInside limit w.bodies) (sym (walk_nil (suc n) at)) tt
+bodies_inside (suc n) at (g ∷ rest) limit fits = ⊎_elim
+    (λ (is_open : g ≡ 1). ⊎_elim
+    (λ (short : length rest < 8 + number_of rest). subst (λ (w : Walk). AreInside limit w.bodies) (sym (walk_cut n at g rest is_open short)) tt)
+    (λ (whole : 8 + number_of rest ≤ length rest).
+    let body = take (number_of rest) (drop 8 rest) in
+    let more = bodies_inside n (at + (9 + number_of rest)) (drop (8 + number_of rest) rest) limit (omega (arith, length-drop (8 + number_of rest) rest)) in
+    let here : at + 9 + length body < limit = omega (arith, length-take-le (number_of rest) (drop 8 rest) (omega (arith, length-drop 8 rest)), length-drop 8 rest) in
+    subst (λ (w : Walk). AreInside limit w.bodies) (sym (walk_open n at g rest is_open whole)) (here, more))
+    (cases_lt (length rest) (8 + number_of rest)))
+    (λ (shut : g ≢ 1). subst (λ (w : Walk). AreInside limit w.bodies) (sym (walk_shut (suc n) at g rest shut)) tt)
     (cases_eq g 1)
 
 -- A walk over a front is the walk over what the front came from, and then what stands behind it.

@@ -3,7 +3,7 @@ ghost use Rattle.std.specs.Prelude.{◌≡◌, ◌≢◌, ◌^◌, ◌<◌, ℕ,
 ghost use Rattle.gor_disk.specs.Disk.{Looks};
 ghost use Rattle.gor_gate.specs.Gates.{gates};
 ghost use Rattle.gor_gate.specs.Places.{IsRead};
-ghost use Rattle.gor_gate.specs.Bodies.{listed, IsCutAt, CountsReadFault};
+ghost use Rattle.gor_gate.specs.Bodies.{listed, AreInside, IsCutAt, CountsReadFault};
 
 use crate::bodies::{Body, GateFault};
 use crate::gated::Gated;
@@ -42,6 +42,8 @@ pub fn read_all<D: Disk>(
     ensures file { IfOk result (λ r. r.0.file ≡ file) }
     ensures read { IsTrue D.tells → IfOk result (λ r. IsRead r.0 (D.view disk.new)) }
     ensures bodies { IsTrue D.tells → IfOk result (λ r. listed r.1.items ≡ (gates ((D.view disk.old).seen file)).bodies) }
+    // On every disk a body ends within a file's greatest length.
+    ensures inside { IfOk result (λ r. AreInside (2 ^ 63) (listed r.1.items)) }
     ensures cut { IsTrue D.tells → IfErr result (IsCutAt (gates ((D.view disk.old).seen file))) }
     ensures same { IsTrue D.tells → Looks file (D.view disk.old) (D.view disk.new) }
     ensures cause { CountsReadFault result (D.faults disk.old) (D.faults disk.new) }
