@@ -39,7 +39,7 @@ no_rows : (slots : List ℕ) → filter_map (row_at fresh_map) slots ≡ []
 no_rows [] = refl
 no_rows (s ∷ slots) = no_rows slots
 
-fresh_rows : rows_of fresh_map ≡ []
+pub fresh_rows : rows_of fresh_map ≡ []
 unfolding rows_of
 fresh_rows = no_rows (range_with_len 0 slots_of_a_shard)
 

@@ -116,7 +116,7 @@ ok_rows files (r ∷ rows) ok = at (found_rise None (found_of files r.uid)) refl
   at (Ok t) e is rest = (subst Rises (found_points files r.uid) (rise_if_ok None (found_of files r.uid) e).0, rest is)
   at (Err f) e is rest = absurd (let both : Err f ≡ Ok tt = is in cc)
 
-held_all : (names : Names) (P : Row → Type 0) → ((k : List ℕ) (r : Row) → names.row k ≡ Some r → P r) → (slots : List ℕ) → AllByRecursion P (filter_map (row_held names) slots)
+pub held_all : (names : Names) (P : Row → Type 0) → ((k : List ℕ) (r : Row) → names.row k ≡ Some r → P r) → (slots : List ℕ) → AllByRecursion P (filter_map (row_held names) slots)
 held_all names P each [] = tt
 held_all names P each (s ∷ slots) = at (names.holder s) (held_all names P each slots) where
   by_row : (k : List ℕ) (o : Option Row) → names.row k ≡ o → AllByRecursion P (filter_map (row_held names) slots) → AllByRecursion P (cons_option o (filter_map (row_held names) slots))
@@ -132,7 +132,7 @@ pub rows_by_slot_ok : (files : Files) (names : Names) → ((k : List ℕ) (r : R
 unfolding rows_by_slot
 rows_by_slot_ok files names each = rows_ok files (filter_map (row_held names) (range_with_len 0 slots_of_a_shard)) (held_all names (λ r. Rises (points_of files.base files.blocks (log_records files.batches) r.uid)) each (range_with_len 0 slots_of_a_shard))
 
-all_held : (names : Names) (P : Row → Type 0) (a n : ℕ) → AllByRecursion P (filter_map (row_held names) (range_with_len a n)) → (s : ℕ) → a ≤ s → s < a + n → (r : Row) → row_held names s ≡ Some r → P r
+pub all_held : (names : Names) (P : Row → Type 0) (a n : ℕ) → AllByRecursion P (filter_map (row_held names) (range_with_len a n)) → (s : ℕ) → a ≤ s → s < a + n → (r : Row) → row_held names s ≡ Some r → P r
 all_held names P a zero all s low high r is = absurd (omega arith)
 all_held names P a (suc n) all s low high r is = tell (eqb_tells s a) (split (row_held names a) refl all) (all_held names P (a + 1) n) where
   split : (o : Option Row) → row_held names a ≡ o → AllByRecursion P (cons_option o (filter_map (row_held names) (range_with_len (a + 1) n)))

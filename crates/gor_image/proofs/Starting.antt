@@ -4,7 +4,6 @@ use Rattle.std.specs.Prelude.{filter_map, flat_map, ⊤, if◌then◌else◌, na
 use Rattle.std.specs.List.{AllByRecursion, cons_option}
 use Rattle.std.specs.Str.{bytes_eq}
 use Rattle.std.proofs.lemmas.Bool.{cases_lt}
-use Rattle.gor_model.specs.Windows.{slots_of_a_shard}
 use Rattle.gor_model.specs.declared.point.Point.{Point}
 use Rattle.gor_model.specs.Windows.{window_end, is_kept, kept, last_window, greatest_time}
 use Rattle.gor_model.specs.Names.{key_of}
@@ -18,11 +17,11 @@ use Rattle.gor_log.specs.declared.record.LogRecord.{LogRecord}
 use Rattle.gor_log.specs.declared.record.LogRecord.TheVariants.{Put, Floor, Seal}
 use Rattle.gor_image.specs.Records.{Placed, BlockRow, Base, Files}
 use Rattle.gor_image.specs.Recovery.{Names, WrongName, WrongSlot, SameName, recovered, with_name, without_name, named, freed, read_name, and_at, read_each, no_names, counts, counted_keys, names_of, log_records, points_of, put_point, block_points, seal_end, floor_end, base_end, is_above, filled, next_of}
-use Rattle.gor_image.specs.Holding.{RecoverTo, IsFit, rows_of, start_of}
+use Rattle.gor_image.specs.Holding.{RecoverTo, rows_of, start_of}
 use Rattle.gor_image.proofs.Core.{Rises}
 use Rattle.gor_image.proofs.Lists.{all_weaker, all_filter}
 use Rattle.gor_image.proofs.Append.{all_both}
-use Rattle.gor_image.proofs.Opening.{fits, rows_apart, rows_are}
+use Rattle.gor_image.proofs.Opening.{Fits, rows_apart, rows_are}
 
 -- ---- each row of names that were read has what its record has
 
@@ -171,15 +170,14 @@ pub record InLimits (files : Files) : Type 0 where
   pub log : AllByRecursion IsLogInLimits (log_records files.batches)
   pub blocks : AllByRecursion (λ b. AllByRecursion IsTimely b.points) files.blocks
 
-module _ (files : Files) (names : Names) (slots : ℕ) (recover : RecoverTo files names) (fit : IsFit files (recovered files names)) (limits : InLimits files)
-    (low : (k : List ℕ) (r : Row) → (recovered files names).row k ≡ Some r → r.slot < slots_of_a_shard) where
+module _ (files : Files) (names : Names) (slots : ℕ) (recover : RecoverTo files names) (fit : Fits (recovered files names)) (limits : InLimits files) where
   -- where no name needs a slot beyond those given and the numbers do not end, an opening gives a start
   pub is_start : ((k : List ℕ) (r : Row) → (recovered files names).row k ≡ Some r → r.slot < slots) → next_of files ≤ 2 ^ 62 → IsStart (start_of slots (recovered files names))
   is_start enough not_worn = record {
     floor = greatest_floor (base_end files.base.window) (filter_map floor_end (log_records files.batches)) limits.window (floors_in (log_records files.batches) limits.log);
     next = (omega arith, not_worn);
     rows = all_weaker (λ (r : List ℕ × Row). (recovered files names).row r.0 ≡ Some r.1) (λ (r : List ℕ × Row). IsRow slots r.0 r.1) (rows_of (recovered files names)) (λ r is. one r.0 r.1 is) (rows_are (recovered files names));
-    apart = rows_apart (recovered files names) (fits files names slots recover fit low);
+    apart = rows_apart (recovered files names) fit;
   } where
     one : (k : List ℕ) (r : Row) → (recovered files names).row k ≡ Some r → IsRow slots k r
     one k r is = by (names.row k) refl is where

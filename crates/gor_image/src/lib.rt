@@ -6,6 +6,10 @@
 //! what the records mean where nothing is wrong with them.
 //!
 //! - `fault`: what may be wrong with an image.
+//! - `records`: records as they are read, with their places; `file_fault`: why bytes are not read as records.
+//! - `marks`, `keys`, `batches`, `blocks`: records of the bytes of one kind of file each, and what must rise in them.
+//! - `files`: the files of a shard, each read whole from its disk into records and given up.
+//! - `recovered`: what an opening recovers, and why it may not.
 //! - `laws`: what appends may rely on. A body behind the current key list, and one behind the current log, go on from the
 //!   state that the image holds by exactly the changes that they spell; key records that no batch covers change nothing.
 //!
@@ -14,7 +18,37 @@
 //! (what an image holds, and when it is fit to be written on), and `ChangeRecords` (the records of changes).
 #![tactic(auto)]
 
+mod base;
+mod batches;
+mod blocks;
+mod blocks_read;
 mod fault;
+mod file_fault;
+mod files;
+mod gather;
+mod keyed_name;
+mod keys;
 pub mod laws;
+mod logs;
+mod logs_read;
+mod marks;
+mod names;
+mod naming;
+mod ranges;
+mod records;
+mod recovered;
+mod recovering;
+mod restore;
+mod rows;
+mod series;
+mod store;
+mod windows;
 
 pub use fault::{DamageKind, ImageFault};
+pub use recovered::{LogTop, OpenFault, Recovered, RecoveredRow};
+pub use recovering::recover;
+
+#[cfg(test)]
+mod tests_files;
+#[cfg(test)]
+mod tests_map;
