@@ -1,0 +1,147 @@
+-- The device that an opening gives stands for the share of a history without events.
+use Rattle.std.proofs.Common.{◌≡◌, ℕ, ◌+◌, ◌≤◌, List, [], ◌∷◌, false, refl, sym, ◌∙◌, ap, subst, arith}
+use Rattle.std.specs.Prelude.{Ok, IsTrue}
+use Rattle.gor_disk.specs.Disk.{DiskView, Contents, IsImage, IsImageAt, held_now}
+use Rattle.gor_gate.specs.Places.{Place, IsEnsured}
+use Rattle.gor_marks.specs.declared.mark.Mark.{Mark}
+use Rattle.gor_marks.specs.Spelling.{IsHome}
+use Rattle.gor_model.specs.declared.start.Start.{Start}
+use Rattle.gor_model.specs.Shares.{device_share}
+use Rattle.gor_journal.specs.Bodies.{AreEmpty}
+use Rattle.gor_image.specs.declared.recovered.LogTop.{LogTop}
+use Rattle.gor_image.specs.declared.recovered.Recovered.{Recovered}
+use Rattle.gor_image.specs.Holding.{start_of}
+use Rattle.gor_image.specs.Fit.{IsFitFor}
+use Rattle.gor_flush.specs.Found.{Found}
+use Rattle.gor_image.specs.Images.{current, map_of}
+use Rattle.gor_image.specs.Laws.{IsBefore}
+use Rattle.gor_image.specs.Recovered.{AreMarks, AreMarksOrNone, AreTops, AreBehind, IsRecovered, recovered_start}
+use Rattle.gor_flush.specs.declared.files.CurrentFiles.{CurrentFiles}
+use Rattle.gor_flush.specs.Devices.{Shown, StandsFor, HoldsAll, WasFit, ShowTops}
+use Rattle.gor_flush.specs.Opening.{AreFiles, AreEnsured, HoldsOn, IsOpened}
+use Rattle.gor_flush.specs.Preparing.{device_marks}
+use Rattle.gor_flush.specs.Steps.{GoesOn}
+use Rattle.gor_flush.proofs.Ensures.{as_seen}
+use Rattle.gor_flush.proofs.Founds.{opened_map}
+use Rattle.gor_flush.proofs.Steps.{same_contents}
+
+-- ---- on every disk
+
+marks_now : (shards shard : ℕ) → IsHome shards shard → (marks : List Mark) → AreMarksOrNone shards shard marks → AreMarks shards shard (device_marks shards shard marks)
+marks_now shards shard home [] are = (refl, home, tt)
+marks_now shards shard home (m ∷ more) are = are
+
+tops_now : (shards shard : ℕ) (marks : List Mark) (shown : List LogTop) → AreTops marks shown → AreTops (device_marks shards shard marks) shown
+tops_now shards shard [] shown are = are
+tops_now shards shard (m ∷ more) shown are = are
+
+behind_now : (shards shard : ℕ) (marks : List Mark) (above next : ℕ) → AreBehind marks above next → AreBehind (device_marks shards shard marks) above next
+behind_now shards shard [] above next behind = record { floor = behind.floor; upto = behind.upto }
+behind_now shards shard (m ∷ more) above next behind = behind
+
+floor_is : (slots : ℕ) (r : Recovered) → (device_share (recovered_start slots r) []).floor ≡ r.floor
+unfolding recovered_start
+floor_is slots r = refl
+
+next_is : (slots : ℕ) (r : Recovered) → (recovered_start slots r).next + 0 ≡ r.next
+unfolding recovered_start
+next_is slots r = omega arith
+
+-- ---- what the images hold
+
+module _ (d : Shown) (slots : ℕ) (r : Recovered) (old : DiskView) (start : Start) where
+  pub images_hold : d.opened ≡ old.moment → GoesOn old d.disk → ((f : _) → IsImage (held_now old f) (old.seen f)) → HoldsOn d.shards d.shard old.seen old d.disk → Found d.shards d.shard slots old.seen r → recovered_start slots r ≡ start
+      → IsOpened d.shards d.shard old.seen d.list d.tops d.disk → WasFit d → HoldsAll d start (device_share start [])
+  images_hold opened goes stays holds found is ready fit = record {
+    prefixes = λ k image low high here. record {
+      later = [];
+      prefix = [];
+      all = refl;
+      enough = omega arith;
+      holds = subst (λ (s : Start). Rattle.gor_image.specs.Fit.FitHolds d.shards d.shard image s []) same (holds was found.map maps slots k image (omega arith) high here);
+    };
+    kept = tt;
+    now = record {
+      pending = ready.pending;
+      settled = λ k image low high here. record {
+        later = [];
+        prefix = [];
+        all = refl;
+        exact = refl;
+        before = subst (λ (c : Contents). IsBefore d.shards d.shard c d.list start []) (at_now k image low high here) (subst (λ (s : Start). IsBefore d.shards d.shard d.disk.seen d.list s []) same (ready.before was found.map maps slots));
+      };
+      tops = λ k image low high here. subst (λ (c : Contents). ShowTops d.list d.tops c) (at_now k image low high here) ready.tops;
+    };
+  } where
+    was : IsFitFor d.shards d.shard old.seen
+    was = fit old.seen (λ f. subst (λ h. IsImage h (old.seen f)) (sym (goes.past d.opened f (omega arith))) (subst (λ k. IsImage (old.held k f) (old.seen f)) (sym opened) (stays f)))
+
+    maps : map_of old.seen d.shards d.shard ≡ Ok found.map
+    maps = opened_map d.shards d.shard slots old.seen found.map found.opens
+
+    same : start_of slots found.map ≡ start
+    same = sym found.start ∙ is
+
+    at_now : (k : ℕ) (image : Contents) → d.disk.moment ≤ k → k ≤ d.disk.moment → IsImageAt d.disk k image → d.disk.seen ≡ image
+    at_now k image low high here =
+        let now : k ≡ d.disk.moment = omega arith in
+        sym (same_contents image d.disk.seen (λ f. as_seen d.disk f (image f) (ready.pending f) (subst (λ j. IsImage (d.disk.held j f) (image f)) now (here f))))
+
+-- what an opening that tells its contents gives
+pub record Told (d : Shown) (slots : ℕ) (r : Recovered) (old : DiskView) : Type 0 where
+  pub goes : GoesOn old d.disk
+  pub stays : (f : _) → IsImage (held_now old f) (old.seen f)
+  pub holds : HoldsOn d.shards d.shard old.seen old d.disk
+  pub found : Found d.shards d.shard slots old.seen r
+  pub ready : IsOpened d.shards d.shard old.seen d.list d.tops d.disk
+  pub ensured : IsEnsured d.marks d.disk × IsEnsured d.keys d.disk × IsEnsured d.log d.disk
+
+-- the device, field by field
+pub record Made (d : Shown) (r : Recovered) : Type 0 where
+  pub home : IsHome d.shards d.shard
+  pub list : d.list ≡ device_marks d.shards d.shard r.marks.items
+  pub tops : d.tops ≡ r.tops.items
+  pub files : CurrentFiles
+  pub files_are : AreFiles (current (device_marks d.shards d.shard r.marks.items)) files
+  pub marks : d.marks ≡ files.marks
+  pub keys : d.keys ≡ files.keys
+  pub log : d.log ≡ files.log
+  pub buffers : AreEmpty d.buffers
+  pub stopped : d.stopped ≡ false
+  pub written : d.written ≡ 0
+  pub faults : d.faults ≡ d.begun
+
+pub stands_open : (d : Shown) (slots : ℕ) (r : Recovered) (old : DiskView) → IsRecovered d.shards d.shard slots r → Made d r → d.opened ≡ old.moment → (IsTrue d.tells → Told d slots r old) → StandsFor d (recovered_start slots r) (device_share (recovered_start slots r) [])
+stands_open d slots r old recovered made opened told = record {
+  stopped = made.stopped;
+  since = λ t. let goes = (told t).goes in omega (arith, goes.later, opened);
+  runs = record {
+    faults = made.faults;
+    empty = made.buffers;
+    written = made.written;
+    done = refl;
+    marks = subst (AreMarks d.shards d.shard) (sym made.list) (marks_now d.shards d.shard made.home r.marks.items recovered.marks);
+    tops = subst (λ (l : List LogTop). AreTops d.list l) (sym made.tops) (subst (λ (l : List Mark). AreTops l r.tops.items) (sym made.list) (tops_now d.shards d.shard r.marks.items r.tops.items recovered.tops));
+    behind = subst (λ (l : List Mark). AreBehind l (device_share (recovered_start slots r) []).floor ((recovered_start slots r).next + 0)) (sym made.list)
+        (subst (λ n. AreBehind (device_marks d.shards d.shard r.marks.items) (device_share (recovered_start slots r) []).floor n) (sym (next_is slots r))
+        (subst (λ n. AreBehind (device_marks d.shards d.shard r.marks.items) n r.next) (sym (floor_is slots r)) (behind_now d.shards d.shard r.marks.items r.floor r.next recovered.behind)));
+    files = (
+      ap (λ p. p.file) made.marks ∙ made.files_are.marks,
+      ap (λ p. p.file) made.keys ∙ made.files_are.keys ∙ ap (λ (l : List Mark). Rattle.gor_disk.specs.declared.disk.FileId.TheVariants.Keys (current l)) (sym made.list),
+      ap (λ p. p.file) made.log ∙ made.files_are.log ∙ ap (λ (l : List Mark). Rattle.gor_disk.specs.declared.disk.FileId.TheVariants.Log (current l)) (sym made.list),
+    );
+    ensured = λ t. (told t).ensured;
+  };
+  images = λ t fit. let all = told t in images_hold d slots r old (recovered_start slots r) opened all.goes all.stays all.holds all.found refl all.ready fit;
+}
+
+-- what holds of three values holds of their equals
+pub moved : {A B X : Type 0} (P : A → B → X → Type 0) (a b : A) (c e : B) (x y : X) → a ≡ b → c ≡ e → x ≡ y → P a c x → P b e y
+moved P a b c e x y first second third holds = subst (λ i. P b e i) third (subst (λ i. P b i x) second (subst (λ i. P i c x) first holds))
+
+pub ensured_now : (marks keys log : Place) (files : CurrentFiles) (old new : DiskView) → files.marks ≡ marks → files.keys ≡ keys → files.log ≡ log → old ≡ new → AreEnsured files old → IsEnsured marks new × IsEnsured keys new × IsEnsured log new
+ensured_now marks keys log files old new a b c is ensured = (
+  subst (IsEnsured marks) is (subst (λ p. IsEnsured p old) a ensured.marks),
+  subst (IsEnsured keys) is (subst (λ p. IsEnsured p old) b ensured.keys),
+  subst (IsEnsured log) is (subst (λ p. IsEnsured p old) c ensured.log),
+)

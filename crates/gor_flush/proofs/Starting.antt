@@ -1,0 +1,94 @@
+-- A device that has taken may write, and stands still when it is stopped.
+use Rattle.std.proofs.Common.{◌≡◌, ℕ, ◌≤◌, List, [], ◌∷◌, ◌++◌, length, true, refl, sym, ◌∙◌, ap, subst, arith, vec_len}
+use Rattle.std.specs.Prelude.{Vec}
+use Rattle.std.specs.declared.alloc.Global.{Global}
+use Rattle.gor_disk.specs.declared.disk.FileId.TheVariants.{Keys, Log}
+use Rattle.gor_disk.specs.Disk.{DiskView, LeavesSince, Rose}
+use Rattle.gor_model.specs.declared.start.Start.{Start}
+use Rattle.gor_model.specs.Changes.{History}
+use Rattle.gor_model.specs.Shares.{DoneAt, device_share}
+use Rattle.gor_journal.specs.Bodies.{stored}
+use Rattle.gor_image.specs.Images.{current}
+use Rattle.gor_flush.specs.Devices.{Shown, HoldsPrefix, IsRunning, Kept, RunsBy, last_count}
+use Rattle.gor_flush.specs.Flushes.{HasHead}
+use Rattle.gor_flush.specs.Keeps.{CallKeeps, DoneExtends, StepKeeps, StandsStill}
+use Rattle.gor_flush.specs.Takes.{HasTaken, with_buffers}
+use Rattle.gor_flush.specs.Writes.{MayWrite, TakenMayWrite}
+use Rattle.gor_flush.proofs.Keeping.{fewer, kept_done, longer, older_low, since_on}
+use Rattle.gor_flush.proofs.Taken.{few}
+use Rattle.gor_flush.proofs.Written.{all_counted}
+
+-- ---- a device that has taken
+
+headed : (body : List ℕ) → HasHead (length (stored body))
+headed [] some = absurd (omega arith)
+headed (b ∷ body) some = omega arith
+
+head_of : (bytes : Vec ℕ Global) (body : List ℕ) → bytes.items ≡ stored body → HasHead (vec_len bytes)
+head_of bytes body is = subst HasHead (sym (bytes.ok.0 ∙ ap length is)) (headed body)
+
+module _ (d : Shown) (start : Start) (h : History) (has : HasTaken d start h) where
+  running : IsRunning (with_buffers has.before d) start (device_share start h)
+  running = subst (λ b. RunsBy b (with_buffers has.before d) start (device_share start h)) has.runs has.stood.runs
+
+  may : MayWrite d
+  may = record {
+    two = λ e. absurd (let both : Keys (current d.list) ≡ Log (current d.list) = sym running.files.1 ∙ e ∙ running.files.2 in cc);
+    bodies = record {
+      key_head = head_of d.buffers.keys _ has.taken.keys;
+      log_head = head_of d.buffers.log _ has.taken.log;
+      key_place = has.taken.key_place;
+      log_place = has.taken.log_place;
+    };
+    ensured = λ t. let e = running.ensured t in (e.1, e.2);
+    fits = let all = all_counted (with_buffers has.before d) d.buffers start h has.begins has.legal has.short has.runs has.stood has.taken in
+        let low = few h in let short = has.short in omega (arith, all, low, short);
+  }
+
+pub taken_may_write : (d : Shown) → TakenMayWrite d
+taken_may_write d start h has = may d start h has
+
+-- ---- what keeps the changes of each Done
+
+pub call_keeps : CallKeeps
+call_keeps d disk start C E dones kept runs = on dones (omega arith) kept where
+  on : (olds : List DoneAt) → last_count olds ≤ last_count dones → Kept d start C olds → Kept (record d { disk = disk }) start (E ++ C) olds
+  on [] low kept = tt
+  on (done ∷ older) low kept = (
+    kept.0,
+    (let k = kept.1 in let l = runs.later in omega (arith, k, l)),
+    since_on (HoldsPrefix d.shards d.shard start (E ++ C) done.count) (HoldsPrefix d.shards d.shard start (E ++ C) (last_count dones)) d.disk disk runs done.moment
+        (λ k image least high is. longer d.shards d.shard start C image E done.count (kept.2 k image least high is))
+        (λ image held. fewer d.shards d.shard start (E ++ C) image done.count (last_count dones) low held),
+    kept.3,
+    on older (let o = older_low done older kept.3 in omega (arith, o, low)) kept.4,
+  )
+
+pub done_extends : DoneExtends
+done_extends d start C count dones since now low kept = kept_done d start C count dones since now low kept
+
+pub step_keeps : StepKeeps
+step_keeps d e start C E dones same kept = on dones kept where
+  on : (olds : List DoneAt) → Kept d start C olds → Kept e start (E ++ C) olds
+  on [] kept = tt
+  on (done ∷ older) kept = (
+    subst (λ n. n ≤ done.moment) (sym same.opened) kept.0,
+    subst (λ (v : DiskView). done.moment ≤ v.moment) (sym same.disk) kept.1,
+    subst (λ (x : ℕ × ℕ × DiskView). LeavesSince done.moment x.2 (HoldsPrefix x.0 x.1 start (E ++ C) done.count)) (λ i. (sym same.shards i, sym same.shard i, sym same.disk i))
+        (λ k image least high is. longer d.shards d.shard start C image E done.count (kept.2 k image least high is)),
+    kept.3,
+    on older kept.4,
+  )
+
+-- ---- a device that is stopped
+
+pub stands_still : (d : Shown) → Rose d.begun d.faults → StandsStill d (record d { stopped = true })
+stands_still d rose start share stood = record {
+  stopped = refl;
+  since = stood.since;
+  runs = rose;
+  images = λ t fit. let images = stood.images t fit in record { prefixes = images.prefixes; kept = kept_same share.dones images.kept; now = tt };
+} where
+  kept_same : (olds : List DoneAt) → Kept d start share.taken olds → Kept (record d { stopped = true }) start share.taken olds
+  kept_same [] kept = tt
+  kept_same (done ∷ older) kept = (kept.0, kept.1, kept.2, kept.3, kept_same older kept.4)

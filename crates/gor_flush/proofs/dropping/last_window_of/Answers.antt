@@ -1,0 +1,11 @@
+use Rattle.std.proofs.Common.{sym, ap, List}
+use Rattle.gor_marks.specs.declared.mark.Mark.{Mark}
+use Rattle.gor_image.specs.Images.{base_of, or_zero}
+use Rattle.gor_flush.proofs.MarkLists.{window_last, home_only}
+use Rattle.gor_flush.proofs.dropping.last_window_of.Goals as goal
+
+pub returns-in-Some-Sealed : goal.returns-in-Some-Sealed
+returns-in-Some-Sealed c = let h = c.in-Some-Sealed in window_last c.args.marks.now _ h.field-0 h.window _ _ _ h.field-0-is h.ensures.some
+
+pub returns-in-Some-Home : goal.returns-in-Some-Home
+returns-in-Some-Home c = let h = c.in-Some-Home in sym (ap (λ (l : List Mark). or_zero (base_of l).window) (home_only c.args.marks.now _ h.field-0 _ _ c.requires h.field-0-is h.ensures.some))

@@ -1,0 +1,13 @@
+pub mod Devices
+pub mod Flushes
+pub mod Keeps
+pub mod Lending
+pub mod Parts
+pub mod Takes
+pub mod Writes
+pub mod ReadFiles
+pub mod Steps
+pub mod Dropping
+pub mod Opening
+pub mod Preparing
+pub mod Found

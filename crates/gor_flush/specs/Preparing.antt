@@ -1,0 +1,19 @@
+-- The marks that a device has once it is open.
+use Rattle.std.specs.Prelude.{◌≡◌, ℕ, List, [], ◌∷◌, IsTrue}
+use Rattle.gor_disk.specs.Disk.{DiskView}
+use Rattle.gor_flush.specs.Devices.{Shown}
+use Rattle.gor_flush.specs.Steps.{GoesOn}
+use Rattle.gor_marks.specs.declared.mark.Mark.{Mark}
+use Rattle.gor_marks.specs.declared.mark.Mark.TheVariants.{Home}
+
+-- those that were there, or the first of a fresh store
+abbrev pub device_marks : ℕ → ℕ → List Mark → List Mark
+device_marks shards shard [] = Home shards shard ∷ []
+device_marks shards shard (m ∷ marks) = m ∷ marks
+
+-- a device of this home, whose opening began with the disk as it was handed in
+pub record BeginsAt (shards shard : ℕ) (old : DiskView) (d : Shown) : Type 0 where
+  pub shards_are : d.shards ≡ shards
+  pub shard_is : d.shard ≡ shard
+  pub opened : d.opened ≡ old.moment
+  pub goes : IsTrue d.tells → GoesOn old d.disk
