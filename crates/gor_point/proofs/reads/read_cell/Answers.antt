@@ -1,0 +1,28 @@
+use Rattle.std.proofs.Common.{◌<◌, ℕ, sym, subst, Some}
+use Rattle.gor_model.specs.declared.start.Start.{Start}
+use Rattle.gor_hall.specs.Passes.{view}
+use Rattle.gor_point.specs.Gets.{found_event}
+use Rattle.gor_point.specs.Views.{HasEvent}
+use Rattle.gor_point.proofs.ViewLaws.{has_event}
+use Rattle.gor_point.proofs.ReadLaws.{found_may, found_keeps}
+use Rattle.gor_point.proofs.reads.read_cell.Goals as goal
+
+pub mark-number-requires-clause-event : goal.mark-number-requires-clause-event
+mark-number-requires-clause-event g c =
+    let low = subst (λ (z : Start). c.args.slot < z.slots) (sym c.requires.pass.0.start) c.requires.slot in
+    let m = found_may (view c.args.pass.now) c.requires.sound c.lane-lane.result c.args.wanted.now c.args.slot low c.args.cell.now c.in_ok-copied.copied c.requires.stands c.requires.holds c.in_ok-copied.ensures c.requires.pass.2 in
+    (c.lane-lane.ensures, c.requires.pass.1, m.0, m.1)
+
+pub returns-clause-read : goal.returns-clause-read
+returns-clause-read g c = record {
+  slot = Some c.args.slot;
+  event = subst (λ (lane : ℕ). HasEvent (view c.args.pass.now) c.mark-number.result (found_event lane c.args.slot c.args.wanted.now c.in_ok-copied.copied) (view c.mark-number.new.pass)) c.lane-lane.ensures
+      (has_event (view c.args.pass.now) (view c.mark-number.new.pass) _ c.mark-number.result c.mark-number.ensures.marked);
+  left = c.mark-number.ensures.pass.2;
+}
+
+pub returns-clause-shares : goal.returns-clause-shares
+returns-clause-shares g c =
+    let low = subst (λ (z : Start). c.args.slot < z.slots) (sym c.requires.pass.0.start) c.requires.slot in
+    found_keeps (view c.args.pass.now) c.requires.sound c.lane-lane.result c.args.wanted.now c.args.slot low c.args.cell.now c.in_ok-copied.copied c.requires.stands c.requires.holds c.in_ok-copied.ensures
+    c.mark-number.result (view c.mark-number.new.pass) c.mark-number.ensures.marked
