@@ -1,0 +1,4 @@
+pub mod TakenParts
+pub mod MadeLaws
+pub mod FlushLaws
+pub mod FlushSteps
