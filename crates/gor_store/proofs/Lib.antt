@@ -1,0 +1,17 @@
+pub mod PointLaws
+pub mod Sealing
+pub mod Places
+pub mod Slots
+pub mod Restoring
+pub mod InOrder
+pub mod TestStarts
+pub mod StoryLists
+pub mod StoryNumbers
+pub mod StoryLanes
+pub mod Stories
+pub mod Works
+pub mod WorkedStory
+pub mod RunLaws
+pub mod LineLaws
+pub mod LaneLaws
+pub mod OpenShards

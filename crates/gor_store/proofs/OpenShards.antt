@@ -1,0 +1,33 @@
+-- A shard's start, and the device among its values.
+use Rattle.std.proofs.Common.{◌≡◌, ℕ, ◌<◌, List, [], ◌∷◌, length, refl, arith, Bool}
+use Rattle.gor_disk.specs.Disk.{DiskView}
+use Rattle.gor_model.specs.Changes.{History}
+use Rattle.gor_model.specs.Objects.{share_of}
+use Rattle.gor_model.specs.Shares.{device_share}
+use Rattle.gor_model.specs.declared.start.Start.{Start}
+use Rattle.gor_model.proofs.NumberedLaws.{device_at}
+use Rattle.gor_hall.specs.Openings.{AllStand}
+use Rattle.gor_flush.specs.Parts.{part_stands}
+use Rattle.gor_flush.specs.declared.device.Device.{Device}
+use Rattle.gor_flush.specs.declared.part.Part.{Part}
+use Rattle.gor_flush.specs.declared.part.Part.TheVariants as part
+use Rattle.gor_flush.proofs.PartKinds.{is_device}
+use Rattle.gor_image.specs.Recovered.{recovered_start}
+use Rattle.gor_image.specs.declared.recovered.Recovered.{Recovered}
+use Rattle.gor_store.specs.Shards.{IsFirst}
+
+pub slots_are : (slots : ℕ) (r : Recovered) → (recovered_start slots r).slots ≡ slots
+unfolding recovered_start
+slots_are slots r = refl
+
+module _ {D : Type 0} (tells : Bool) (disk : D → DiskView) (faults : D → ℕ) (start : Start) (h : History) where
+  first_is : (x : Part D) (xs : List (Part D)) → AllStand (part_stands tells disk faults) start (x ∷ xs) h → (d : Device D) × IsFirst d (x ∷ xs)
+  first_is (part.Device d) xs stand = (d, refl)
+  first_is (part.Directory x) xs stand = absurd (is_device tells disk faults start 0 (part.Directory x) (share_of start 0 h) (device_share start h) (device_at start h) (stand 0 (part.Directory x) refl))
+  first_is (part.Series x) xs stand = absurd (is_device tells disk faults start 0 (part.Series x) (share_of start 0 h) (device_share start h) (device_at start h) (stand 0 (part.Series x) refl))
+  first_is (part.Journal x) xs stand = absurd (is_device tells disk faults start 0 (part.Journal x) (share_of start 0 h) (device_share start h) (device_at start h) (stand 0 (part.Journal x) refl))
+
+  -- values that stand begin with the device
+  pub begins_with_device : (values : List (Part D)) → 0 < length values → AllStand (part_stands tells disk faults) start values h → (d : Device D) × IsFirst d values
+  begins_with_device [] some stand = absurd (omega (arith, some))
+  begins_with_device (x ∷ xs) some stand = first_is x xs stand

@@ -1,0 +1,10 @@
+pub mod Series
+pub mod Directories
+pub mod Values
+pub mod TestRows
+pub mod Stories
+pub mod Works
+pub mod WorkedStory
+pub mod Lines
+pub mod Lanes
+pub mod Shards

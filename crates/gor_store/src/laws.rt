@@ -1,0 +1,27 @@
+ghost use Rattle.gor_store.specs.Stories.{OneHistory, OneHistoryBegins};
+ghost use Rattle.gor_store.specs.WorkedStory.{WorkedStory};
+ghost use Rattle.gor_store.specs.Works.{WorkStarts, PhaseIsDone, LastIsDone, WorkIsCounted, AddedIsLater, WorkIsTold, WorkIsClosed};
+
+/// The laws on which the text of a store rests, as clauses. They speak of eight lanes that worked in phases, each number of a
+/// phase at least the count of the events before it, and of a shard's legal history that has just the events of the phases and
+/// later ones, under their numbers.
+pub fn laws()
+    // It is the history of the phases, each of which added the events that its lanes' lines print, in the order of their
+    // numbers, and then the later events; and the text of all lines prints the history of the phases.
+    ensures begins { OneHistoryBegins }
+    // Where lane 8 alone worked after the phases, the later events are its own.
+    ensures one_history { OneHistory }
+    // There are such histories: two lanes whose numbers stand crosswise, and a flush at the end.
+    ensures worked { WorkedStory }
+    // Passes that have made nothing have done no phase, and what they have done grows by a phase, and then by events after
+    // the phases.
+    ensures starts { WorkStarts }
+    ensures phase { PhaseIsDone }
+    ensures last { LastIsDone }
+    // The passes made as many events as the phases have, and what a pass makes after it has seen so many is behind them.
+    ensures counted { WorkIsCounted }
+    ensures later { AddedIsLater }
+    // The one history of a hall that closes has just what its passes have done.
+    ensures told { WorkIsTold }
+    ensures closed { WorkIsClosed }
+{}
