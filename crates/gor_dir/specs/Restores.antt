@@ -12,7 +12,7 @@ use Rattle.gor_dir.specs.Pools.{is_apart}
 
 -- a start with so many slots and no series
 abbrev pub bare_start : ℕ → Start
-bare_start slots = record { slots = slots; floor = 0; next = 1; rows = [] }
+bare_start slots = record { slots = slots; floor = 0; next = 1; rows = []; shards = 0; shard = 0; since = 0; faults = 0 }
 
 -- the second start has a series more, in some place of its rows
 pub record AddsRow (before : Start) (row : Row) (after : Start) : Type 0 where

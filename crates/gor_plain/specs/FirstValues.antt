@@ -14,7 +14,7 @@ abbrev pub first_row : Row
 first_row = record { name = letter_a; slot = 0; uid = 1; floor = 0; points = [] }
 
 abbrev pub one_series : Start
-one_series = record { slots = 1; floor = 0; next = 2; rows = (letter_a, first_row) ∷ [] }
+one_series = record { slots = 1; floor = 0; next = 2; rows = (letter_a, first_row) ∷ []; shards = 0; shard = 0; since = 0; faults = 0 }
 
 -- four values, which stand for the shares of the empty history
 abbrev pub AreFirst : List Plain → Type 0
