@@ -87,4 +87,4 @@ unfoldable pub rows_of : ShardMap → List (List ℕ × Row)
 rows_of map = filter_map (row_at map) (range_with_len 0 slots_of_a_shard)
 
 abbrev pub start_of : ℕ → ShardMap → Start
-start_of slots map = record { slots = slots; floor = map.floor; next = map.next; rows = rows_of map }
+start_of slots map = record { slots = slots; floor = map.floor; next = map.next; rows = rows_of map; shards = 0; shard = 0; since = 0; faults = 0 }

@@ -49,6 +49,12 @@ pub use recovered::{LogTop, OpenFault, Recovered, RecoveredRow};
 pub use recovering::recover;
 
 #[cfg(test)]
+mod laid;
+#[cfg(test)]
 mod tests_files;
 #[cfg(test)]
 mod tests_map;
+#[cfg(test)]
+mod tests_recover;
+#[cfg(test)]
+mod tests_sealed;

@@ -3,6 +3,7 @@ ghost use Rattle.std.specs.Prelude.{◌≤◌};
 
 use crate::fault::{DamageKind, ImageFault};
 use crate::files::{read_block_file, read_key_list, read_log, read_marks};
+use crate::laid::{KEYS, LOG, MARKS, changed};
 use crate::recovered::OpenFault;
 use gor_disk::{Disk, FileId, MemoryDisk};
 use gor_keys::KeyRecord;
@@ -13,18 +14,6 @@ use gor_slab::SlabWriter;
 use std::alloc::{AllocError, Global};
 use std::process::Abort;
 use std::test::Fail;
-
-// The files of a store with one point.
-const MARKS: [u8; 20] = [1, 0, 0, 0, 0, 0, 0, 0, 10, 1, 1, 0, 0, 0, 1, 0, 0, 0, 0, 0];
-
-const KEYS: [u8; 30] = [
-    1, 0, 0, 0, 0, 0, 0, 0, 20, 1, 1, 0, 0, 0, 0, 0, 0, 0, 1, 0, 0, 0, 0, 0, 0, 0, 0, 1, 97, 0,
-];
-
-const LOG: [u8; 48] = [
-    1, 0, 0, 0, 0, 0, 0, 0, 38, 1, 0, 0, 0, 0, 0, 0, 0, 1, 0, 0, 0, 0, 0, 0, 0, 1, 1, 0, 0, 0, 0,
-    0, 0, 0, 1, 0, 0, 0, 10, 0, 0, 0, 0, 0, 0, 0, 1, 0,
-];
 
 // A home, and the windows 5 and 6 sealed.
 const SEALED: [u8; 82] = [
@@ -99,15 +88,6 @@ fn holding(alloc: Global, file: FileId, bytes: &[u8]) -> Result<MemoryDisk, Fail
     let mut disk = MemoryDisk::new(alloc);
     disk.write_at(file, 0, bytes)?;
     Ok(disk)
-}
-
-// The bytes with one of them changed.
-fn changed(alloc: Global, bytes: &[u8], at: usize, to: u8) -> Result<Vec<u8>, AllocError> {
-    let mut bytes = bytes.to_vec(alloc)?;
-    if let Some(byte) = bytes.get_mut(at) {
-        *byte = to;
-    }
-    Ok(bytes)
 }
 
 fn check(

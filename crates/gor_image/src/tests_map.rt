@@ -1,45 +1,16 @@
 // Shards that are opened, and the first refusal of others.
 
 use crate::fault::{DamageKind, ImageFault};
+use crate::laid::{KEYS, LOG, MARKS, changed, store};
 use crate::recovered::OpenFault;
 use crate::recovering::recover;
-use gor_disk::{Disk, FileId, MemoryDisk};
-use std::alloc::{AllocError, Global};
+use gor_disk::{FileId, MemoryDisk};
 use std::test::Fail;
-
-// The files of a store with one point.
-const MARKS: [u8; 20] = [1, 0, 0, 0, 0, 0, 0, 0, 10, 1, 1, 0, 0, 0, 1, 0, 0, 0, 0, 0];
-
-const KEYS: [u8; 30] = [
-    1, 0, 0, 0, 0, 0, 0, 0, 20, 1, 1, 0, 0, 0, 0, 0, 0, 0, 1, 0, 0, 0, 0, 0, 0, 0, 0, 1, 97, 0,
-];
-
-const LOG: [u8; 48] = [
-    1, 0, 0, 0, 0, 0, 0, 0, 38, 1, 0, 0, 0, 0, 0, 0, 0, 1, 0, 0, 0, 0, 0, 0, 0, 1, 1, 0, 0, 0, 0,
-    0, 0, 0, 1, 0, 0, 0, 10, 0, 0, 0, 0, 0, 0, 0, 1, 0,
-];
-
-fn store(alloc: Global, keys: &[u8], log: &[u8]) -> Result<MemoryDisk, Fail> {
-    let mut disk = MemoryDisk::new(alloc);
-    disk.write_at(FileId::Marks, 0, &MARKS)?;
-    disk.write_at(FileId::Keys(0), 0, keys)?;
-    disk.write_at(FileId::Log(0), 0, log)?;
-    Ok(disk)
-}
-
-// The bytes with one of them changed.
-fn changed(alloc: Global, bytes: &[u8], at: usize, to: u8) -> Result<Vec<u8>, AllocError> {
-    let mut bytes = bytes.to_vec(alloc)?;
-    if let Some(byte) = bytes.get_mut(at) {
-        *byte = to;
-    }
-    Ok(bytes)
-}
 
 #[test]
 fn the_worked_store_is_recovered(rt: HostRuntime) -> Result<(), Fail> {
     let alloc = rt.alloc();
-    let mut disk = store(alloc, &KEYS, &LOG)?;
+    let mut disk = store(alloc, &MARKS, &KEYS, &LOG)?;
     let found = recover(alloc, &mut disk, 1, 0, 2)
         .ok()
         .ok_or("the shard is opened")?;
@@ -81,7 +52,7 @@ fn a_record_that_no_batch_covers_is_passed_over(rt: HostRuntime) -> Result<(), F
     let alloc = rt.alloc();
     // The gate of the batch is shut.
     let log = changed(alloc, &LOG, 0, 0)?;
-    let mut disk = store(alloc, &KEYS, &log)?;
+    let mut disk = store(alloc, &MARKS, &KEYS, &log)?;
     let found = recover(alloc, &mut disk, 1, 0, 2)
         .ok()
         .ok_or("the shard is opened")?;
@@ -100,7 +71,7 @@ fn the_first_refusal_is_told(rt: HostRuntime) -> Result<(), Fail> {
         (17, 0, 10, DamageKind::Value),
     ] {
         let bytes = changed(alloc, &LOG, at, to)?;
-        let mut disk = store(alloc, &KEYS, &bytes)?;
+        let mut disk = store(alloc, &MARKS, &KEYS, &bytes)?;
         let damage = ImageFault::Damage {
             file: log,
             at: place,
@@ -111,7 +82,7 @@ fn the_first_refusal_is_told(rt: HostRuntime) -> Result<(), Fail> {
             Some(OpenFault::Image(damage))
         );
     }
-    let mut disk = store(alloc, &KEYS, &LOG)?;
+    let mut disk = store(alloc, &MARKS, &KEYS, &LOG)?;
     let home = ImageFault::Home {
         found_shards: 1,
         found_shard: 0,
@@ -147,7 +118,7 @@ fn names_and_times_have_their_refusals(rt: HostRuntime) -> Result<(), Fail> {
             97, 1, 0, 0, 0, 0, 0, 0, 0, 2, 0, 0, 0, slot, 0, 0, 0, 0, 1, name, 0,
         ];
         let log = changed(alloc, &LOG, 25, 2)?;
-        let mut disk = store(alloc, &keys, &log)?;
+        let mut disk = store(alloc, &MARKS, &keys, &log)?;
         let fault = recover(alloc, &mut disk, 1, 0, 2).err();
         match want {
             Some(kind) => {
@@ -167,7 +138,7 @@ fn names_and_times_have_their_refusals(rt: HostRuntime) -> Result<(), Fail> {
         0, 0, 0, 0, 1, 0, 0, 0, 10, 0, 0, 0, 0, 0, 0, 0, 1, 1, 0, 0, 0, 0, 0, 0, 0, 1, 0, 0, 0, 10,
         0, 0, 0, 0, 0, 0, 0, 1, 0,
     ];
-    let mut disk = store(alloc, &KEYS, &log)?;
+    let mut disk = store(alloc, &MARKS, &KEYS, &log)?;
     let damage = ImageFault::Damage {
         file: FileId::Log(0),
         at: 56,
