@@ -11,7 +11,7 @@ use Rattle.gor_journal.specs.Bodies.{AreEmpty}
 use Rattle.gor_image.specs.declared.recovered.LogTop.{LogTop}
 use Rattle.gor_image.specs.declared.recovered.Recovered.{Recovered}
 use Rattle.gor_image.specs.Holding.{start_of}
-use Rattle.gor_image.specs.Fit.{IsFitFor}
+use Rattle.gor_image.specs.Fit.{IsFitFor, FitHolds}
 use Rattle.gor_flush.specs.Found.{Found}
 use Rattle.gor_image.specs.Images.{current, map_of}
 use Rattle.gor_image.specs.Laws.{IsBefore}
@@ -20,6 +20,7 @@ use Rattle.gor_flush.specs.declared.files.CurrentFiles.{CurrentFiles}
 use Rattle.gor_flush.specs.Devices.{Shown, StandsFor, HoldsAll, WasFit, ShowTops}
 use Rattle.gor_flush.specs.Opening.{AreFiles, AreEnsured, HoldsOn, IsOpened}
 use Rattle.gor_flush.specs.Preparing.{device_marks}
+use Rattle.gor_flush.specs.Starts.{opened_start, start_with}
 use Rattle.gor_flush.specs.Steps.{GoesOn}
 use Rattle.gor_flush.proofs.Ensures.{as_seen}
 use Rattle.gor_flush.proofs.Founds.{opened_map}
@@ -39,26 +40,62 @@ behind_now : (shards shard : ℕ) (marks : List Mark) (above next : ℕ) → Are
 behind_now shards shard [] above next behind = record { floor = behind.floor; upto = behind.upto }
 behind_now shards shard (m ∷ more) above next behind = behind
 
-floor_is : (slots : ℕ) (r : Recovered) → (device_share (recovered_start slots r) []).floor ≡ r.floor
-unfolding recovered_start
-floor_is slots r = refl
+module _ (slots : ℕ) (r : Recovered) (of which since faults : ℕ) where
+  floor_is : (device_share (opened_start slots r of which since faults) []).floor ≡ r.floor
+  unfolding opened_start
+  floor_is = refl
 
-next_is : (slots : ℕ) (r : Recovered) → (recovered_start slots r).next + 0 ≡ r.next
-unfolding recovered_start
-next_is slots r = omega arith
+  next_is : (opened_start slots r of which since faults).next + 0 ≡ r.next
+  unfolding opened_start
+  next_is = omega arith
+
+  of_is : of ≡ (opened_start slots r of which since faults).shards
+  unfolding opened_start
+  of_is = refl
+
+  which_is : which ≡ (opened_start slots r of which since faults).shard
+  unfolding opened_start
+  which_is = refl
+
+  since_is : since ≡ (opened_start slots r of which since faults).since
+  unfolding opened_start
+  since_is = refl
+
+  faults_are : faults ≡ (opened_start slots r of which since faults).faults
+  unfolding opened_start
+  faults_are = refl
+
+  -- the moment and the faults of a start do not count for what an image holds
+  held_so : (shards shard : ℕ) (image : Contents) → FitHolds shards shard image (recovered_start slots r) [] → FitHolds shards shard image (opened_start slots r of which since faults) []
+  unfolding recovered_start opened_start
+  held_so shards shard image held = record {
+    fit = held.fit;
+    holds = record { map = held.holds.map; is = held.holds.is; state = record { floor = held.holds.state.floor; rows = held.holds.state.rows } };
+  }
+
+  before_so : (shards shard : ℕ) (image : Contents) (marks : List Mark) → IsBefore shards shard image marks (recovered_start slots r) [] → IsBefore shards shard image marks (opened_start slots r of which since faults) []
+  unfolding recovered_start opened_start
+  before_so shards shard image marks before = record {
+    fit = record {
+      fit = before.fit.fit;
+      holds = record { map = before.fit.holds.map; is = before.fit.holds.is; state = record { floor = before.fit.holds.state.floor; rows = before.fit.holds.state.rows } };
+    };
+    marks_are = before.marks_are;
+    next = before.next;
+  }
 
 -- ---- what the images hold
 
-module _ (d : Shown) (slots : ℕ) (r : Recovered) (old : DiskView) (start : Start) where
-  pub images_hold : d.opened ≡ old.moment → GoesOn old d.disk → ((f : _) → IsImage (held_now old f) (old.seen f)) → HoldsOn d.shards d.shard old.seen old d.disk → Found d.shards d.shard slots old.seen r → recovered_start slots r ≡ start
-      → IsOpened d.shards d.shard old.seen d.list d.tops d.disk → WasFit d → HoldsAll d start (device_share start [])
-  images_hold opened goes stays holds found is ready fit = record {
+module _ (d : Shown) (slots : ℕ) (r : Recovered) (old : DiskView) where
+  pub images_hold : d.opened ≡ old.moment → GoesOn old d.disk → ((f : _) → IsImage (held_now old f) (old.seen f)) → HoldsOn d.shards d.shard old.seen old d.disk → Found d.shards d.shard slots old.seen r
+      → IsOpened d.shards d.shard old.seen d.list d.tops d.disk → WasFit d → HoldsAll d (start_with slots r d) (device_share (start_with slots r d) [])
+  images_hold opened goes stays holds found ready fit = record {
     prefixes = λ k image low high here. record {
       later = [];
       prefix = [];
       all = refl;
       enough = omega arith;
-      holds = subst (λ (s : Start). Rattle.gor_image.specs.Fit.FitHolds d.shards d.shard image s []) same (holds was found.map maps slots k image (omega arith) high here);
+      holds = held_so slots r d.shards d.shard d.opened d.begun d.shards d.shard image (subst (λ (s : Start). FitHolds d.shards d.shard image s []) same (holds was found.map maps slots k image (omega arith) high here));
     };
     kept = tt;
     now = record {
@@ -68,7 +105,9 @@ module _ (d : Shown) (slots : ℕ) (r : Recovered) (old : DiskView) (start : Sta
         prefix = [];
         all = refl;
         exact = refl;
-        before = subst (λ (c : Contents). IsBefore d.shards d.shard c d.list start []) (at_now k image low high here) (subst (λ (s : Start). IsBefore d.shards d.shard d.disk.seen d.list s []) same (ready.before was found.map maps slots));
+        before = before_so slots r d.shards d.shard d.opened d.begun d.shards d.shard image d.list
+            (subst (λ (c : Contents). IsBefore d.shards d.shard c d.list (recovered_start slots r) []) (at_now k image low high here)
+            (subst (λ (s : Start). IsBefore d.shards d.shard d.disk.seen d.list s []) same (ready.before was found.map maps slots)));
       };
       tops = λ k image low high here. subst (λ (c : Contents). ShowTops d.list d.tops c) (at_now k image low high here) ready.tops;
     };
@@ -79,8 +118,8 @@ module _ (d : Shown) (slots : ℕ) (r : Recovered) (old : DiskView) (start : Sta
     maps : map_of old.seen d.shards d.shard ≡ Ok found.map
     maps = opened_map d.shards d.shard slots old.seen found.map found.opens
 
-    same : start_of slots found.map ≡ start
-    same = sym found.start ∙ is
+    same : start_of slots found.map ≡ recovered_start slots r
+    same = sym found.start
 
     at_now : (k : ℕ) (image : Contents) → d.disk.moment ≤ k → k ≤ d.disk.moment → IsImageAt d.disk k image → d.disk.seen ≡ image
     at_now k image low high here =
@@ -111,8 +150,12 @@ pub record Made (d : Shown) (r : Recovered) : Type 0 where
   pub written : d.written ≡ 0
   pub faults : d.faults ≡ d.begun
 
-pub stands_open : (d : Shown) (slots : ℕ) (r : Recovered) (old : DiskView) → IsRecovered d.shards d.shard slots r → Made d r → d.opened ≡ old.moment → (IsTrue d.tells → Told d slots r old) → StandsFor d (recovered_start slots r) (device_share (recovered_start slots r) [])
+pub stands_open : (d : Shown) (slots : ℕ) (r : Recovered) (old : DiskView) → IsRecovered d.shards d.shard slots r → Made d r → d.opened ≡ old.moment → (IsTrue d.tells → Told d slots r old) → StandsFor d (start_with slots r d) (device_share (start_with slots r d) [])
 stands_open d slots r old recovered made opened told = record {
+  shards_are = of_is slots r d.shards d.shard d.opened d.begun;
+  shard_is = which_is slots r d.shards d.shard d.opened d.begun;
+  opened = since_is slots r d.shards d.shard d.opened d.begun;
+  begun = faults_are slots r d.shards d.shard d.opened d.begun;
   stopped = made.stopped;
   since = λ t. let goes = (told t).goes in omega (arith, goes.later, opened);
   runs = record {
@@ -122,9 +165,9 @@ stands_open d slots r old recovered made opened told = record {
     done = refl;
     marks = subst (AreMarks d.shards d.shard) (sym made.list) (marks_now d.shards d.shard made.home r.marks.items recovered.marks);
     tops = subst (λ (l : List LogTop). AreTops d.list l) (sym made.tops) (subst (λ (l : List Mark). AreTops l r.tops.items) (sym made.list) (tops_now d.shards d.shard r.marks.items r.tops.items recovered.tops));
-    behind = subst (λ (l : List Mark). AreBehind l (device_share (recovered_start slots r) []).floor ((recovered_start slots r).next + 0)) (sym made.list)
-        (subst (λ n. AreBehind (device_marks d.shards d.shard r.marks.items) (device_share (recovered_start slots r) []).floor n) (sym (next_is slots r))
-        (subst (λ n. AreBehind (device_marks d.shards d.shard r.marks.items) n r.next) (sym (floor_is slots r)) (behind_now d.shards d.shard r.marks.items r.floor r.next recovered.behind)));
+    behind = subst (λ (l : List Mark). AreBehind l (device_share (start_with slots r d) []).floor ((start_with slots r d).next + 0)) (sym made.list)
+        (subst (λ n. AreBehind (device_marks d.shards d.shard r.marks.items) (device_share (start_with slots r d) []).floor n) (sym (next_is slots r d.shards d.shard d.opened d.begun))
+        (subst (λ n. AreBehind (device_marks d.shards d.shard r.marks.items) n r.next) (sym (floor_is slots r d.shards d.shard d.opened d.begun)) (behind_now d.shards d.shard r.marks.items r.floor r.next recovered.behind)));
     files = (
       ap (λ p. p.file) made.marks ∙ made.files_are.marks,
       ap (λ p. p.file) made.keys ∙ made.files_are.keys ∙ ap (λ (l : List Mark). Rattle.gor_disk.specs.declared.disk.FileId.TheVariants.Keys (current l)) (sym made.list),
@@ -132,7 +175,7 @@ stands_open d slots r old recovered made opened told = record {
     );
     ensured = λ t. (told t).ensured;
   };
-  images = λ t fit. let all = told t in images_hold d slots r old (recovered_start slots r) opened all.goes all.stays all.holds all.found refl all.ready fit;
+  images = λ t fit. let all = told t in images_hold d slots r old opened all.goes all.stays all.holds all.found all.ready fit;
 }
 
 -- what holds of three values holds of their equals

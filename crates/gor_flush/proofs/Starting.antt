@@ -1,12 +1,12 @@
 -- A device that has taken may write, and stands still when it is stopped.
-use Rattle.std.proofs.Common.{◌≡◌, ℕ, ◌≤◌, List, [], ◌∷◌, ◌++◌, length, true, refl, sym, ◌∙◌, ap, subst, arith, vec_len}
+use Rattle.std.proofs.Common.{◌≡◌, ◌≢◌, ℕ, ◌≤◌, List, [], ◌∷◌, ◌++◌, length, true, refl, sym, ◌∙◌, ap, subst, arith, vec_len}
 use Rattle.std.specs.Prelude.{Vec}
 use Rattle.std.specs.declared.alloc.Global.{Global}
 use Rattle.gor_disk.specs.declared.disk.FileId.TheVariants.{Keys, Log}
 use Rattle.gor_disk.specs.Disk.{DiskView, LeavesSince, Rose}
 use Rattle.gor_model.specs.declared.start.Start.{Start}
 use Rattle.gor_model.specs.Changes.{History}
-use Rattle.gor_model.specs.Shares.{DoneAt, device_share}
+use Rattle.gor_model.specs.Shares.{DeviceShare, DoneAt, device_share}
 use Rattle.gor_journal.specs.Bodies.{stored}
 use Rattle.gor_image.specs.Images.{current}
 use Rattle.gor_flush.specs.Devices.{Shown, HoldsPrefix, IsRunning, Kept, RunsBy, last_count}
@@ -27,13 +27,16 @@ headed (b ∷ body) some = omega arith
 head_of : (bytes : Vec ℕ Global) (body : List ℕ) → bytes.items ≡ stored body → HasHead (vec_len bytes)
 head_of bytes body is = subst HasHead (sym (bytes.ok.0 ∙ ap length is)) (headed body)
 
+pub apart : (d : Shown) (start : Start) (share : DeviceShare) → IsRunning d start share → d.keys.file ≢ d.log.file
+apart d start share running = λ same. absurd (let both : Keys (current d.list) ≡ Log (current d.list) = sym running.files.1 ∙ same ∙ running.files.2 in cc)
+
 module _ (d : Shown) (start : Start) (h : History) (has : HasTaken d start h) where
   running : IsRunning (with_buffers has.before d) start (device_share start h)
   running = subst (λ b. RunsBy b (with_buffers has.before d) start (device_share start h)) has.runs has.stood.runs
 
   may : MayWrite d
   may = record {
-    two = λ e. absurd (let both : Keys (current d.list) ≡ Log (current d.list) = sym running.files.1 ∙ e ∙ running.files.2 in cc);
+    two = apart (with_buffers has.before d) start (device_share start h) running;
     bodies = record {
       key_head = head_of d.buffers.keys _ has.taken.keys;
       log_head = head_of d.buffers.log _ has.taken.log;
@@ -84,6 +87,10 @@ step_keeps d e start C E dones same kept = on dones kept where
 
 pub stands_still : (d : Shown) → Rose d.begun d.faults → StandsStill d (record d { stopped = true })
 stands_still d rose start share stood = record {
+  shards_are = stood.shards_are;
+  shard_is = stood.shard_is;
+  opened = stood.opened;
+  begun = stood.begun;
   stopped = refl;
   since = stood.since;
   runs = rose;

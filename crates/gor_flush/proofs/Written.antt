@@ -139,6 +139,10 @@ module _ (d : Shown) (buffers : Buffers) (start : Start) (h : History) (begins :
 
     pub stands_stopped : stopped ≡ true → Rose d.faults faults → ((t : IsTrue d.tells) → Called d buffers disk) → StandsFor new start (share_stopped start h)
     stands_stopped is rose called = record {
+      shards_are = stood.shards_are;
+      shard_is = stood.shard_is;
+      opened = stood.opened;
+      begun = stood.begun;
       stopped = is;
       since = λ t. since (called t) t;
       runs = subst (λ n. Rose n faults) running.faults rose;
@@ -215,6 +219,10 @@ module _ (d : Shown) (buffers : Buffers) (start : Start) (h : History) (begins :
 
       pub stands_done : StandsFor new start (share_done disk.moment start h)
       stands_done = record {
+        shards_are = stood.shards_are;
+        shard_is = stood.shard_is;
+        opened = stood.opened;
+        begun = stood.begun;
         stopped = same_stop ∙ stood.stopped;
         since = λ t. since (done t).called t;
         runs = subst (λ b. RunsBy b new start (share_done disk.moment start h)) (sym going) running_on;

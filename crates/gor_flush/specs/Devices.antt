@@ -149,6 +149,10 @@ pub record HoldsAll (d : Shown) (start : Start) (share : DeviceShare) : Type 0 w
 -- ---- a device stands for the share of its shard's history
 
 pub record StandsFor (d : Shown) (start : Start) (share : DeviceShare) : Type 0 where
+  pub shards_are : d.shards ≡ start.shards
+  pub shard_is : d.shard ≡ start.shard
+  pub opened : d.opened ≡ start.since
+  pub begun : d.begun ≡ start.faults
   pub stopped : d.stopped ≡ share.stopped
   pub since : IsTrue d.tells → d.opened ≤ d.disk.moment
   pub runs : RunsBy share.stopped d start share

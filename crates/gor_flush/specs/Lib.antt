@@ -1,4 +1,5 @@
 pub mod Devices
+pub mod Starts
 pub mod Flushes
 pub mod Keeps
 pub mod Lending

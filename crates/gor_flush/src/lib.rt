@@ -33,6 +33,8 @@ pub use part::Part;
 #[cfg(test)]
 mod tests_append;
 #[cfg(test)]
+mod tests_crash;
+#[cfg(test)]
 mod tests_open;
 #[cfg(test)]
 mod tests_writing;

@@ -1,31 +1,38 @@
+use crate::device::Device;
+use gor_disk::Disk;
 use gor_image::Recovered;
 use gor_rule::Begins;
 use std::snapshot::Snapshot;
 
-/// The start of a shard's history: what its opening recovered, with the count of slots that it was opened with.
+/// The start of a shard's history: what its opening recovered, with the count of slots that it was opened with, and the device
+/// that the opening gave.
 #[derive(Drop)]
-pub struct Opening {
+pub struct Opening<D: Disk> {
     slots: u32,
     found: Snapshot<Recovered>,
+    device: Snapshot<Device<D>>,
 }
 
-impl Begins for Opening {
-    ghost use Rattle.gor_image.specs.Recovered.{recovered_start};
+impl<D: Disk> Begins for Opening<D> {
+    ghost use Rattle.gor_flush.specs.Devices.{shown};
+    ghost use Rattle.gor_flush.specs.Starts.{start_with};
 
-    ghost start = { λ opening. recovered_start opening.slots opening.found.value };
+    ghost start = { λ opening. start_with opening.slots opening.found.value (shown D.tells D.view D.faults opening.device.value) };
 }
 
-impl Opening {
+impl<D: Disk> Opening<D> {
     ghost use Rattle.std.specs.Prelude.{◌≡◌};
 
-    /// The start that was recovered, with so many slots. It takes no memory.
-    pub fn of(slots: u32, found: &Recovered) -> Opening
+    /// The start that was recovered, with so many slots, when this device was opened. It takes no memory.
+    pub fn of(slots: u32, found: &Recovered, device: &Device<D>) -> Opening<D>
         ensures slots { result.slots ≡ slots }
         ensures found { result.found.value ≡ found.now }
+        ensures device { result.device.value ≡ device.now }
     {
         Opening {
             slots,
             found: Snapshot::of(found),
+            device: Snapshot::of(device),
         }
     }
 }

@@ -114,7 +114,7 @@ pub(crate) fn put_a(alloc: Global, journal: &mut Journal) -> Result<(), Fail> {
 }
 
 /// A put of `b`, one more of `a`, and a delete of `b`, under the numbers 2 to 4; and a put of `c` in its slot.
-fn put_more(alloc: Global, journal: &mut Journal) -> Result<(), Fail> {
+pub(crate) fn put_more(alloc: Global, journal: &mut Journal) -> Result<(), Fail> {
     let b = Name::read(alloc, "b").ok().ok_or("a name is read")?;
     let c = Name::read(alloc, "c").ok().ok_or("a name is read")?;
     let entries = [

@@ -45,10 +45,13 @@ fn device_on<D: Disk>(alloc: Global, mut disk: D, tops: Vec<LogTop>) -> Option<D
 }
 
 /// Takes and writes what waits, where the device is not stopped; how many changes it has written by then.
-fn write<D: Disk>(device: &mut Device<D>, journal: &mut Journal) -> Option<u64>
+pub(crate) fn write<D: Disk>(device: &mut Device<D>, journal: &mut Journal) -> Option<u64>
     requires empty { AreEmpty device.old.buffers }
     requires two { device.old.keys.file ≢ device.old.log.file }
     requires ready { IsTrue D.tells → IsEnsured device.old.keys (D.view device.old.disk) × IsEnsured device.old.log (D.view device.old.disk) }
+    ensures empty { IfSome result (λ count. AreEmpty device.new.buffers) }
+    ensures two { IfSome result (λ count. device.new.keys.file ≢ device.new.log.file) }
+    ensures ready { IsTrue D.tells → IfSome result (λ count. IsEnsured device.new.keys (D.view device.new.disk) × IsEnsured device.new.log (D.view device.new.disk)) }
 {
     if device.stopped() || device.written > 1 << 40 {
         return None;
@@ -57,7 +60,10 @@ fn write<D: Disk>(device: &mut Device<D>, journal: &mut Journal) -> Option<u64>
     if device.buffers.changes > 1 << 40 {
         return None;
     }
-    device.write_taken().ok()
+    match device.write_taken() {
+        Ok(count) => Some(count),
+        Err(_) => None,
+    }
 }
 
 fn tops_of(alloc: Global) -> Result<Vec<LogTop>, Fail> {

@@ -1,6 +1,8 @@
 // The device writes what a Take moved to its buffers.
-ghost use Rattle.std.specs.Prelude.{◌≡◌, false, OnErr, OnOk, vec_len};
+ghost use Rattle.std.specs.Prelude.{◌≡◌, false, is_err, IsTrue, OnErr, OnOk, vec_len};
 ghost use Rattle.gor_disk.specs.Disk.{CountsFault, Rose};
+ghost use Rattle.gor_gate.specs.Places.{IsEnsured};
+ghost use Rattle.gor_journal.specs.Bodies.{AreEmpty};
 ghost use Rattle.gor_journal.specs.Entries.{greater};
 ghost use Rattle.gor_flush.specs.Devices.{shown};
 ghost use Rattle.gor_flush.specs.Keeps.{StandsStill};
@@ -47,6 +49,12 @@ impl<D: Disk> Device<D> {
         requires may { MayWrite (shown D.tells D.view D.faults self.old) }
         ensures done { OnOk result (StandsDone (shown D.tells D.view D.faults self.old) (shown D.tells D.view D.faults self.new)) }
         ensures count { CountsAll (shown D.tells D.view D.faults self.old) result }
+        ensures key_file { self.new.keys.file ≡ self.old.keys.file }
+        ensures log_file { self.new.log.file ≡ self.old.log.file }
+        ensures keys { IsTrue D.tells → OnOk result (IsEnsured self.new.keys (D.view self.new.disk)) }
+        ensures log { IsTrue D.tells → OnOk result (IsEnsured self.new.log (D.view self.new.disk)) }
+        ensures emptied { OnOk result (AreEmpty self.new.buffers) }
+        ensures stops { self.new.stopped ≡ is_err result }
         ensures stopped { OnErr result (StandsStopped (shown D.tells D.view D.faults self.old) (shown D.tells D.view D.faults self.new)) }
         ensures cause { CountsFault result (D.faults self.old.disk) (D.faults self.new.disk) }
     {
