@@ -10,3 +10,5 @@ pub mod PutLaws
 pub mod Uids
 pub mod BeginLaws
 pub mod PutMoves
+pub mod TestValues
+pub mod TwoPasses

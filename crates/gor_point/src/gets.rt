@@ -52,7 +52,12 @@ pub enum GetFault {
 }
 
 // Looks a key up under the directory's lock alone.
-fn look_up<D: Disk, R: Wait>(rt: &R, shard: &Shard<D>, pass: &mut Pass, wanted: &Wanted) -> Lookup
+pub(crate) fn look_up<D: Disk, R: Wait>(
+    rt: &R,
+    shard: &Shard<D>,
+    pass: &mut Pass,
+    wanted: &Wanted,
+) -> Lookup
     requires pass { IsPassOf shard.now pass.old × (held pass.old ≡ []) × (0 < left_of_pass pass.old) }
     ensures pass { IsBack shard.now pass.old pass.new }
     ensures found { LooksUp (start_of shard.now).slots pass.old wanted.now pass.new result }
@@ -63,7 +68,7 @@ fn look_up<D: Disk, R: Wait>(rt: &R, shard: &Shard<D>, pass: &mut Pass, wanted: 
 }
 
 // Reads the series of a slot if it has the key. It may have ended since the look-up, and another may be in its slot.
-fn read_at<D: Disk, P: Pause, R: Wait>(
+pub(crate) fn read_at<D: Disk, P: Pause, R: Wait>(
     rt: &R,
     shard: &Shard<D>,
     pass: &mut Pass,
@@ -84,7 +89,7 @@ fn read_at<D: Disk, P: Pause, R: Wait>(
 }
 
 // Looks a key up and keeps the directory, so that the series in the slot that it gives is the key's.
-fn read_again<D: Disk, P: Pause, R: Wait>(
+pub(crate) fn read_again<D: Disk, P: Pause, R: Wait>(
     rt: &R,
     shard: &Shard<D>,
     pass: &mut Pass,

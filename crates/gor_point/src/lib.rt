@@ -24,3 +24,12 @@ pub use parts::Shard;
 pub use put_call::put;
 pub use puts::{PutAnswer, PutFault, PutReply};
 pub use tries::{TryFault, try_get};
+
+#[cfg(test)]
+mod tests;
+#[cfg(test)]
+mod tests_pause;
+#[cfg(test)]
+mod tests_shard;
+#[cfg(test)]
+mod tests_slots;

@@ -56,7 +56,7 @@ fn put_kept<D: Disk, R: Wait>(
 }
 
 // Looks the key up again and keeps the directory, so that the series in the slot that it gives is the key's.
-fn put_again<D: Disk, R: Wait>(
+pub(crate) fn put_again<D: Disk, R: Wait>(
     rt: &R,
     shard: &Shard<D>,
     pass: &mut Pass,
@@ -105,7 +105,7 @@ fn put_point<D: Disk, R: Wait>(
 }
 
 // A point under a name, at a time in the limit.
-fn new_point(name: &Name, time: u64, word: u64) -> NewPoint
+pub(crate) fn new_point(name: &Name, time: u64, word: u64) -> NewPoint
     requires { time ≤ greatest_time }
     ensures point { (result.name.now ≡ name.now) × (result.time ≡ time) × (result.word ≡ word) }
     ensures may { MayPut name.now (key_of name.now) time }
