@@ -9,7 +9,7 @@ use Rattle.gor_model.specs.declared.point.Point.{Point}
 use Rattle.gor_model.specs.declared.start.Row.{Row}
 use Rattle.gor_model.specs.declared.start.Start.{Start}
 use Rattle.gor_model.specs.Objects.{objects, share_of}
-use Rattle.gor_model.specs.PlainMap.{grown_row, with_kept}
+use Rattle.gor_model.specs.PlainMap.{grown_row, with_kept, unused_slots}
 use Rattle.gor_model.specs.Shares.{SeriesShare, OfSlot, OfJournal, device_share, directory_share, journal_share, series_share}
 use Rattle.gor_model.specs.Starts.{AreApart, IsRow, IsStart, row_in}
 use Rattle.gor_model.specs.Windows.{kept}
@@ -18,12 +18,13 @@ use Rattle.gor_model.proofs.SlotLaws.{bytes_tell}
 use Rattle.gor_hall.specs.Openings.{AllStand}
 use Rattle.gor_dir.specs.Listings as directory
 use Rattle.gor_journal.specs.Stands as journal
-use Rattle.gor_flush.specs.Devices.{StandsFor, shown}
+use Rattle.gor_flush.specs.Devices.{Shown, StandsFor, shown}
 use Rattle.gor_flush.specs.Parts.{part_stands}
 use Rattle.gor_flush.specs.declared.device.Device.{Device}
 use Rattle.gor_flush.specs.declared.part.Part.{Part}
 use Rattle.gor_flush.specs.declared.part.Part.TheVariants as part
-use Rattle.gor_image.specs.Recovered.{recovered_start}
+use Rattle.gor_flush.specs.Starts.{opened_start, start_with}
+use Rattle.gor_image.specs.Recovered.{recovered_start, keyed_row}
 use Rattle.gor_image.specs.declared.recovered.Recovered.{Recovered}
 use Rattle.gor_store.specs.declared.values.Parts.{Parts}
 use Rattle.gor_store.specs.Series.{CellsStand, series_in}
@@ -150,13 +151,43 @@ module _ (slots : ℕ) (r : Recovered) where
   unfolding recovered_start
   next_is = refl
 
-  pub all_stand : {D : Type 0} (tells : Bool) (disk : D → DiskView) (faults : D → ℕ) → IsStart (recovered_start slots r) → (device : Device D) (parts : Parts)
-      → StandsFor (shown tells disk faults device) (recovered_start slots r) (device_share (recovered_start slots r) []) → ArePartsOf slots r parts → (values : List (Part D)) → values ≡ in_order device parts
-      → AllStand (part_stands tells disk faults) (recovered_start slots r) values []
-  unfolding recovered_start
-  all_stand tells disk faults is device parts device_is are values same o x at =
-      each tells disk faults (recovered_start slots r) is device parts device_is are.directory_is are.count are.series are.journal_is o x (ap (λ l. slice_get l o) (sym same) ∙ at)
+  -- the moment and the faults of a start do not count for it
+  module _ (of which since faults : ℕ) where
+    pub is_start : IsStart (recovered_start slots r) → IsStart (opened_start slots r of which since faults)
+    unfolding recovered_start opened_start
+    is_start is = record { floor = is.floor; next = is.next; rows = is.rows; apart = is.apart }
 
-  pub all_there : {D : Type 0} (device : Device D) (parts : Parts) → ArePartsOf slots r parts → (values : List (Part D)) → values ≡ in_order device parts → length values ≡ objects (recovered_start slots r)
-  unfolding recovered_start
-  all_there device parts are values same = ap length same ∙ values_count (recovered_start slots r) device parts are.count
+    directory_same : directory_share (recovered_start slots r) [] ≡ directory_share (opened_start slots r of which since faults) []
+    unfolding recovered_start opened_start unused_slots
+    directory_same = refl
+
+    journal_same : journal_share (recovered_start slots r) [] ≡ journal_share (opened_start slots r of which since faults) []
+    unfolding recovered_start opened_start
+    journal_same = refl
+
+    slots_same : slots ≡ (opened_start slots r of which since faults).slots
+    unfolding opened_start
+    slots_same = refl
+
+    rows_same : map keyed_row r.rows.items ≡ (opened_start slots r of which since faults).rows
+    unfolding opened_start
+    rows_same = refl
+
+  module _ {D : Type 0} (tells : Bool) (disk : D → DiskView) (faults : D → ℕ) (device : Device D) where
+    abbrev start : Start
+    start = start_with slots r (shown tells disk faults device)
+
+    abbrev d : Shown
+    d = shown tells disk faults device
+
+    pub all_stand : IsStart (recovered_start slots r) → (parts : Parts)
+        → StandsFor (shown tells disk faults device) start (device_share start []) → ArePartsOf slots r parts → (values : List (Part D)) → values ≡ in_order device parts
+        → AllStand (part_stands tells disk faults) start values []
+    all_stand is parts device_is are values same o x at =
+        each tells disk faults start (is_start d.shards d.shard d.opened d.begun is) device parts device_is
+        (subst (directory.Stands parts.directory) (directory_same d.shards d.shard d.opened d.begun) are.directory_is) (are.count ∙ slots_same d.shards d.shard d.opened d.begun)
+        (subst (λ rows. CellsStand rows parts.cells.items) (rows_same d.shards d.shard d.opened d.begun) are.series)
+        (subst (journal.Stands parts.journal.pending) (journal_same d.shards d.shard d.opened d.begun) are.journal_is) o x (ap (λ l. slice_get l o) (sym same) ∙ at)
+
+    pub all_there : (parts : Parts) → ArePartsOf slots r parts → (values : List (Part D)) → values ≡ in_order device parts → length values ≡ objects start
+    all_there parts are values same = ap length same ∙ values_count start device parts (are.count ∙ slots_same d.shards d.shard d.opened d.begun)

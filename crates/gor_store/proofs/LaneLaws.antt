@@ -20,7 +20,7 @@ use Rattle.gor_text.specs.declared.workload.Line.{Line}
 use Rattle.gor_text.specs.declared.workload.Line.TheVariants.{Put, Get, Del, Flush, Finish, Merge}
 use Rattle.gor_store.specs.Stories.{AllFrom, printed_of}
 use Rattle.gor_store.specs.Lines.{IsResting, RestsAgain, HasRun, MadeSome, HasTold, ServesLine, Prints, need}
-use Rattle.gor_store.specs.Lanes.{AreTaken, needs, ServesAll, RunsLane}
+use Rattle.gor_store.specs.Lanes.{AreTaken, needs, ServesAll, RunsLane, MadeFrom}
 use Rattle.gor_store.proofs.RunLaws.{runs_on, some_on, all_joined}
 use Rattle.gor_store.proofs.StoryLists.{all_reverse}
 use Rattle.gor_store.proofs.Works.{added_newest_first, added_is_later}
@@ -60,7 +60,7 @@ module _ {V : Type 0} (shard : Hall V) where
 pub served_none : (p : Pass) (told : List LaneAnswer) → HasRun p p [] → ServesAll [] p p told told
 served_none p told run = record { served = []; told = []; events = []; are = (refl, tt); after_is = sym (append-nil told); tells = refl; prints = λ phase. refl; own = tt; run = run }
 
-flat_last : {X Y : Type 0} (f : X → List Y) (xs : List X) (x : X) → flat_map f (xs ++ x ∷ []) ≡ flat_map f xs ++ f x
+pub flat_last : {X Y : Type 0} (f : X → List Y) (xs : List X) (x : X) → flat_map f (xs ++ x ∷ []) ≡ flat_map f xs ++ f x
 flat_last f xs x = flat_map-append f xs (x ∷ []) ∙ ap (λ z. flat_map f xs ++ z) (append-nil (f x))
 
 pub served_more : (lines : List Line) (line : Line) (old mid new : Pass) (before between after : List LaneAnswer) → lane_of mid ≡ lane_of old
@@ -112,6 +112,10 @@ next_need line lines left less all few = let a = need_least line in (omega arith
 
 -- ---- a lane that has first seen all events before its phase
 
+all_higher : (low high : ℕ) (events : List Numbered) → low ≤ high → AllFrom high events → AllFrom low events
+all_higher low high [] le all = tt
+all_higher low high (e ∷ events) le all = (let a = all.0 in omega (arith, a, le), all_higher low high events le all.1)
+
 pub runs_lane : (lines : List Line) (before : ℕ) (old mid new : Pass) (told : List LaneAnswer) → lane_of mid ≡ lane_of old → lane_of new ≡ lane_of mid → numbers (lane_of mid) (seen mid) ≡ made mid → before ≤ length (seen mid)
     → HasRun old mid [] → ServesAll lines mid new [] told → RunsLane lines before old new told
 runs_lane lines before old mid new told same lane own long waited a =
@@ -129,10 +133,21 @@ runs_lane lines before old mid new told same lane own long waited a =
       };
       made = subst (HasRun old new) (append-nil a.events ∙ sym (reverse-reverse a.events)) made_all;
       from = all_higher before (length (seen mid)) events long later;
-    } where
-      all_higher : (low high : ℕ) (events : List Numbered) → low ≤ high → AllFrom high events → AllFrom low events
-      all_higher low high [] le all = tt
-      all_higher low high (e ∷ events) le all = (let a = all.0 in omega (arith, a, le), all_higher low high events le all.1)
+    }
+
+-- where memory was wanting
+pub made_from : (before : ℕ) (old mid new : Pass) → lane_of mid ≡ lane_of old → lane_of new ≡ lane_of mid → numbers (lane_of mid) (seen mid) ≡ made mid → before ≤ length (seen mid)
+    → HasRun old mid [] → MadeSome mid new → MadeFrom before old new
+made_from before old mid new same lane own long waited more =
+    let events = more.0 in
+    let run : HasRun mid new events = more.1 in
+    let later : AllFrom (length (seen mid)) (reverse events) = added_is_later mid new (reverse events) (added_newest_first mid new events lane run.begins run.made_is run.each) own run.own in
+    let high : AllFrom before (reverse events) = all_higher before (length (seen mid)) (reverse events) long later in
+    record {
+      events = events;
+      run = subst (HasRun old new) (append-nil events) (runs_on old mid new [] events same waited run);
+      from = subst (AllFrom before) (reverse-reverse events) (all_reverse (λ (e : Numbered). before ≤ e.0) (reverse events) high);
+    }
 
 -- ---- the next line
 

@@ -15,3 +15,11 @@ pub mod RunLaws
 pub mod LineLaws
 pub mod LaneLaws
 pub mod OpenShards
+pub mod Crossing
+pub mod PhaseLaws
+pub mod Gathering
+pub mod Sessions
+pub mod DiskOrder
+pub mod NinePasses
+pub mod ClosingLaws
+pub mod OpeningLaws

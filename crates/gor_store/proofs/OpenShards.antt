@@ -1,5 +1,5 @@
 -- A shard's start, and the device among its values.
-use Rattle.std.proofs.Common.{◌≡◌, ℕ, ◌<◌, List, [], ◌∷◌, length, refl, arith, Bool}
+use Rattle.std.proofs.Common.{◌≡◌, ℕ, ◌<◌, List, [], ◌∷◌, length, refl, arith, Bool, ap, ◌∙◌}
 use Rattle.gor_disk.specs.Disk.{DiskView}
 use Rattle.gor_model.specs.Changes.{History}
 use Rattle.gor_model.specs.Objects.{share_of}
@@ -12,13 +12,23 @@ use Rattle.gor_flush.specs.declared.device.Device.{Device}
 use Rattle.gor_flush.specs.declared.part.Part.{Part}
 use Rattle.gor_flush.specs.declared.part.Part.TheVariants as part
 use Rattle.gor_flush.proofs.PartKinds.{is_device}
-use Rattle.gor_image.specs.Recovered.{recovered_start}
+use Rattle.gor_flush.specs.Devices.{shown}
+use Rattle.gor_flush.specs.Starts.{opened_start, start_with}
 use Rattle.gor_image.specs.declared.recovered.Recovered.{Recovered}
 use Rattle.gor_store.specs.Shards.{IsFirst}
 
-pub slots_are : (slots : ℕ) (r : Recovered) → (recovered_start slots r).slots ≡ slots
-unfolding recovered_start
-slots_are slots r = refl
+pub slots_are : (slots : ℕ) (r : Recovered) (of which since faults : ℕ) → (opened_start slots r of which since faults).slots ≡ slots
+unfolding opened_start
+slots_are slots r of which since faults = refl
+
+pub opened_as : (slots : ℕ) (r : Recovered) (a b c d e f g h : ℕ) → a ≡ b → c ≡ d → e ≡ f → g ≡ h → opened_start slots r a c e g ≡ opened_start slots r b d f h
+opened_as slots r a b c d e f g h first second third fourth =
+    ap (λ x. opened_start slots r x c e g) first ∙ ap (λ x. opened_start slots r b x e g) second ∙ ap (λ x. opened_start slots r b d x g) third ∙ ap (λ x. opened_start slots r b d f x) fourth
+
+pub start_same : {D : Type 0} (tells : Bool) (disk : D → DiskView) (faults : D → ℕ) (s slots : ℕ) (q r : Recovered) (d device : Device D) → s ≡ slots → q ≡ r → d ≡ device
+    → start_with s q (shown tells disk faults d) ≡ start_with slots r (shown tells disk faults device)
+start_same {D} tells disk faults s slots q r d device a b c =
+    ap (λ x. start_with x q (shown tells disk faults d)) a ∙ ap (λ x. start_with slots x (shown tells disk faults d)) b ∙ ap (λ (x : Device D). start_with slots r (shown tells disk faults x)) c
 
 module _ {D : Type 0} (tells : Bool) (disk : D → DiskView) (faults : D → ℕ) (start : Start) (h : History) where
   first_is : (x : Part D) (xs : List (Part D)) → AllStand (part_stands tells disk faults) start (x ∷ xs) h → (d : Device D) × IsFirst d (x ∷ xs)

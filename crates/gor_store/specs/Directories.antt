@@ -17,7 +17,7 @@ pub record AreRows (slots : ℕ) (rows : List (List ℕ × Row)) : Type 0 where
 
 -- the start with these rows and the floor 0
 abbrev pub rows_start : ℕ → List (List ℕ × Row) → Start
-rows_start slots rows = record { slots = slots; floor = 0; next = 1; rows = rows }
+rows_start slots rows = record { slots = slots; floor = 0; next = 1; rows = rows; shards = 0; shard = 0; since = 0; faults = 0 }
 
 -- a directory takes up one row more
 abbrev pub RestoresRow : Listing → Listing → RecoveredRow → Type 0

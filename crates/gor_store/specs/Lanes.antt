@@ -46,3 +46,9 @@ pub record RunsLane (lines : List Line) (before : ℕ) (old new : Pass) (told : 
   pub is_run : IsRun 0 (lane_of old) run
   pub made : HasRun old new (reverse run.events)
   pub from : AllFrom before run.events
+
+-- Where memory is wanting, the events that were made stand, and each of their numbers is at least this. The newest stands first.
+pub record MadeFrom (before : ℕ) (old new : Pass) : Type 0 where
+  pub events : List Numbered
+  pub run : HasRun old new events
+  pub from : AllFrom before events

@@ -8,3 +8,7 @@ pub mod WorkedStory
 pub mod Lines
 pub mod Lanes
 pub mod Shards
+pub mod Phases
+pub mod Closings
+pub mod Sessions
+pub mod Stores

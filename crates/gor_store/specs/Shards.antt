@@ -1,6 +1,6 @@
 -- A shard as it opens, and as it closes.
 use Rattle.std.specs.Prelude.{◌≡◌, ℕ, ◌<◌, ◌≤◌, List, [], Bool, IsTrue, Some, slice_get, length}
-use Rattle.gor_disk.specs.Disk.{Contents, DiskView}
+use Rattle.gor_disk.specs.Disk.{DiskView}
 use Rattle.gor_model.specs.Changes.{History}
 use Rattle.gor_model.specs.Objects.{share_of}
 use Rattle.gor_model.specs.declared.start.Start.{Start}
@@ -9,20 +9,22 @@ use Rattle.gor_flush.specs.declared.part.Part.{Part}
 use Rattle.gor_flush.specs.declared.part.Part.TheVariants as part
 use Rattle.gor_flush.specs.Devices.{shown, device_stands}
 use Rattle.gor_flush.specs.Found.{Found}
+use Rattle.gor_flush.specs.Starts.{opened_start}
 use Rattle.gor_hall.specs.declared.hall.Hall.{Hall}
 use Rattle.gor_hall.specs.declared.pass.Pass.{Pass}
 use Rattle.gor_hall.specs.Closings.{IsWholeHistory}
 use Rattle.gor_hall.specs.Halls.{start_of, lanes_of, IsPassOf, IsFirstPass}
 use Rattle.gor_hall.specs.Passes.{held, lane_of}
-use Rattle.gor_image.specs.Recovered.{IsRecovered, recovered_start}
+use Rattle.gor_image.specs.Recovered.{IsRecovered}
 use Rattle.gor_image.specs.declared.recovered.Recovered.{Recovered}
 
--- the history begins from what the files of a shard recover to, which is what they hold where the disk tells them
-pub record BeginsFrom (shards shard slots : ℕ) (tells : Bool) (image : Contents) (start : Start) : Type 0 where
+-- The history begins from what the files of a shard recover to, which is what they hold where the disk tells them, at the
+-- moment at which the disk was handed in, when it had failed so often.
+pub record BeginsFrom (shards shard slots : ℕ) (tells : Bool) (disk : DiskView) (faults : ℕ) (start : Start) : Type 0 where
   pub recovered : Recovered
   pub sound : IsRecovered shards shard slots recovered
-  pub same : start ≡ recovered_start slots recovered
-  pub found : IsTrue tells → Found shards shard slots image recovered
+  pub same : start ≡ opened_start slots recovered shards shard disk.moment faults
+  pub found : IsTrue tells → Found shards shard slots disk.seen recovered
 
 module _ {V : Type 0} where
   -- so many passes, each the first of its lane

@@ -14,7 +14,7 @@ use Rattle.gor_finish.specs.Made.{Numbered}
 use Rattle.gor_store.specs.Stories.{LaneRun, IsStory}
 
 abbrev pub empty_start : Start
-empty_start = record { slots = 4; floor = 0; rows = []; next = 1 }
+empty_start = record { slots = 4; floor = 0; rows = []; next = 1; shards = 0; shard = 0; since = 0; faults = 0 }
 
 abbrev pub event_of : ℕ → Call → Reply → Event
 event_of lane call reply = record { lane = lane; slot = None; call = call; reply = reply }

@@ -10,6 +10,7 @@ ghost use Rattle.gor_image.specs.Openings.{FaultCounts, IsMet};
 ghost use Rattle.gor_image.specs.Recovered.{recovered_start};
 ghost use Rattle.gor_flush.specs.Devices.{StandsFor, shown};
 ghost use Rattle.gor_flush.specs.Opening.{HoldsOn, IsUnwritten};
+ghost use Rattle.gor_flush.specs.Starts.{start_with};
 ghost use Rattle.gor_flush.specs.Steps.{GoesOn};
 ghost use Rattle.gor_hall.specs.Halls.{start_of, lanes_of};
 ghost use Rattle.gor_store.specs.Shards.{AreFirst, AreIdle, BeginsFrom, HasClosed, IsFirst};
@@ -49,13 +50,13 @@ fn open_hall<D: Disk>(
 ) -> Result<OpenShard<D>, Device<D>>
     requires start { IsStart (recovered_start slots recovered) }
     requires slots { slots ≤ slots_of_a_shard }
-    requires device { StandsFor (shown D.tells D.view D.faults device) (recovered_start slots recovered) (device_share (recovered_start slots recovered) []) }
+    requires device { StandsFor (shown D.tells D.view D.faults device) (start_with slots recovered (shown D.tells D.view D.faults device)) (device_share (start_with slots recovered (shown D.tells D.view D.faults device)) []) }
     requires lanes { (1 ≤ lanes) × (lanes ≤ 16) }
-    ensures start { IfOk result (λ o. start_of o.hall ≡ recovered_start slots recovered) }
+    ensures start { IfOk result (λ o. start_of o.hall ≡ start_with slots recovered (shown D.tells D.view D.faults device)) }
     ensures passes { IfOk result (λ o. AreFirst o.hall lanes o.passes.items) }
     ensures back { IfErr result (λ returned. returned ≡ device) }
 {
-    let start = Opening::of(slots, &recovered);
+    let start = Opening::of(slots, &recovered, &device);
     let values = values_of(alloc, device, recovered, slots)?;
     match Hall::open(alloc, &start, values, lanes) {
         Ok(opened) => {
@@ -88,7 +89,7 @@ pub fn open_shard<D: Disk>(
     requires slots { slots ≤ slots_of_a_shard }
     requires pending { IsTrue D.tells → NothingPending (D.view disk) }
     requires lanes { (1 ≤ lanes) × (lanes ≤ 16) }
-    ensures start { IfOk result (λ o. BeginsFrom shards shard slots D.tells ((D.view disk).seen) (start_of o.hall)) }
+    ensures start { IfOk result (λ o. BeginsFrom shards shard slots D.tells (D.view disk) (D.faults disk) (start_of o.hall)) }
     ensures count { IfOk result (λ o. (start_of o.hall).slots ≡ slots) }
     ensures passes { IfOk result (λ o. AreFirst o.hall lanes o.passes.items) }
     ensures goes { IsTrue D.tells → IfErr result (λ e. GoesOn (D.view disk) (D.view e.disk)) }

@@ -6,6 +6,7 @@ ghost use Rattle.gor_model.specs.Starts.{IsStart};
 ghost use Rattle.gor_hall.specs.Openings.{AllStand};
 ghost use Rattle.gor_flush.specs.Devices.{StandsFor, shown};
 ghost use Rattle.gor_flush.specs.Parts.{part_stands};
+ghost use Rattle.gor_flush.specs.Starts.{start_with};
 ghost use Rattle.gor_flush.specs.declared.part.Part.TheVariants as part;
 ghost use Rattle.gor_image.specs.Recovered.{recovered_start};
 ghost use Rattle.gor_store.specs.Shards.{IsFirst};
@@ -85,9 +86,9 @@ pub fn values_of<D: Disk>(
     slots: u32,
 ) -> Result<Vec<Part<D>>, Device<D>>
     requires start { IsStart (recovered_start slots recovered) }
-    requires device { StandsFor (shown D.tells D.view D.faults device) (recovered_start slots recovered) (device_share (recovered_start slots recovered) []) }
-    ensures len { IfOk result (λ values. length values.items ≡ objects (recovered_start slots recovered)) }
-    ensures stand { IfOk result (λ values. AllStand (part_stands D.tells D.view D.faults) (recovered_start slots recovered) values.items []) }
+    requires device { StandsFor (shown D.tells D.view D.faults device) (start_with slots recovered (shown D.tells D.view D.faults device)) (device_share (start_with slots recovered (shown D.tells D.view D.faults device)) []) }
+    ensures len { IfOk result (λ values. length values.items ≡ objects (start_with slots recovered (shown D.tells D.view D.faults device))) }
+    ensures stand { IfOk result (λ values. AllStand (part_stands D.tells D.view D.faults) (start_with slots recovered (shown D.tells D.view D.faults device)) values.items []) }
     ensures first { IfOk result (λ values. IsFirst device values.items) }
     ensures back { IfErr result (λ returned. returned ≡ device) }
 {

@@ -1,25 +1,43 @@
-use Rattle.std.proofs.Common.{rules, ◌≡◌, ◌<◌, ◌+◌, List, [], length, sym, ap, ap₂, subst, arith, ◌∙◌, slice_get}
+use Rattle.std.proofs.Common.{rules, ◌≡◌, ◌<◌, ◌+◌, List, [], length, sym, ap, subst, arith, ◌∙◌, slice_get}
 use Rattle.gor_model.specs.Objects.{objects}
+use Rattle.gor_model.specs.Starts.{IsStart}
 use Rattle.gor_model.specs.declared.start.Start.{Start}
 use Rattle.gor_hall.specs.Openings.{AllStand}
+use Rattle.gor_flush.specs.Devices.{shown}
 use Rattle.gor_flush.specs.Parts.{part_stands}
 use Rattle.gor_flush.specs.declared.part.Part.{Part}
-use Rattle.gor_image.specs.Recovered.{recovered_start}
-use Rattle.gor_store.proofs.OpenShards.{slots_are}
+use Rattle.gor_store.proofs.InOrder.{is_start}
+use Rattle.gor_store.proofs.OpenShards.{slots_are, start_same}
 use Rattle.gor_store.proofs.shards.open_hall.Goals as goal
+
+pub open-requires-clause-start : goal.open-requires-clause-start
+open-requires-clause-start g c =
+    let first = shown g.D.Disk.tells g.D.Disk.view g.D.Disk.faults c.args.device in
+    let same = start_same g.D.Disk.tells g.D.Disk.view g.D.Disk.faults c.of-start.result.slots c.args.slots c.of-start.result.found.value c.args.recovered c.of-start.result.device.value c.args.device
+    c.of-start.ensures.slots c.of-start.ensures.found c.of-start.ensures.device in
+    subst IsStart (sym same) (is_start c.args.slots c.args.recovered first.shards first.shard first.opened first.begun c.requires.start)
 
 pub open-requires-clause-values : goal.open-requires-clause-values
 open-requires-clause-values g c =
-    let same : recovered_start c.of-start.result.slots c.of-start.result.found.value ≡ recovered_start c.args.slots c.args.recovered = ap₂ recovered_start c.of-start.ensures.slots c.of-start.ensures.found in
-    let count : (recovered_start c.args.slots c.args.recovered).slots ≡ c.args.slots = slots_are c.args.slots c.args.recovered in
+    let first = shown g.D.Disk.tells g.D.Disk.view g.D.Disk.faults c.args.device in
+    let same = start_same g.D.Disk.tells g.D.Disk.view g.D.Disk.faults c.of-start.result.slots c.args.slots c.of-start.result.found.value c.args.recovered c.of-start.result.device.value c.args.device
+    c.of-start.ensures.slots c.of-start.ensures.found c.of-start.ensures.device in
+    let count = slots_are c.args.slots c.args.recovered first.shards first.shard first.opened first.begun in
     let there = c.in_ok-values.ensures.len in
     let few = c.requires.slots in
     (there ∙ ap objects (sym same), omega (arith, there, count, few))
 
 pub open-requires-clause-stand : goal.open-requires-clause-stand
 open-requires-clause-stand g c =
-    let same : recovered_start c.of-start.result.slots c.of-start.result.found.value ≡ recovered_start c.args.slots c.args.recovered = ap₂ recovered_start c.of-start.ensures.slots c.of-start.ensures.found in
+    let same = start_same g.D.Disk.tells g.D.Disk.view g.D.Disk.faults c.of-start.result.slots c.args.slots c.of-start.result.found.value c.args.recovered c.of-start.result.device.value c.args.device
+    c.of-start.ensures.slots c.of-start.ensures.found c.of-start.ensures.device in
     subst (λ (s : Start). AllStand (part_stands g.D.Disk.tells g.D.Disk.view g.D.Disk.faults) s c.in_ok-values.values.items []) (sym same) c.in_ok-values.ensures.stand
+
+pub returns-in-Ok-clause-start : goal.returns-in-Ok-clause-start
+returns-in-Ok-clause-start g c =
+    let same = start_same g.D.Disk.tells g.D.Disk.view g.D.Disk.faults c.of-start.result.slots c.args.slots c.of-start.result.found.value c.args.recovered c.of-start.result.device.value c.args.device
+    c.of-start.ensures.slots c.of-start.ensures.found c.of-start.ensures.device in
+    c.in-Ok.ensures.hall.0 ∙ same
 
 pub returns-in-Ok-clause-passes : goal.returns-in-Ok-clause-passes
 returns-in-Ok-clause-passes g c =

@@ -2,11 +2,19 @@ use Rattle.std.proofs.Common.{◌≡◌, sym, ap, subst, ◌∙◌}
 use Rattle.gor_model.specs.declared.start.Start.{Start}
 use Rattle.gor_flush.specs.declared.device.Device.{Device}
 use Rattle.gor_flush.specs.Opening.{HoldsOn}
-use Rattle.gor_store.proofs.OpenShards.{slots_are}
+use Rattle.gor_store.proofs.OpenShards.{slots_are, opened_as}
 use Rattle.gor_store.proofs.shards.open_shard.Goals as goal
 
+pub returns-in-Ok-open_hall-clause-start : goal.returns-in-Ok-open_hall-clause-start
+returns-in-Ok-open_hall-clause-start g c = record {
+  recovered = c.in-Ok.found.1;
+  sound = c.in-Ok.ensures.recovered;
+  same = c.in-Ok-open_hall.ensures.start ∙ opened_as c.args.slots c.in-Ok.found.1 _ _ _ _ _ _ _ _ c.in-Ok.ensures.begins.shards_are c.in-Ok.ensures.begins.shard_is c.in-Ok.ensures.begins.opened c.in-Ok.ensures.begins.begun;
+  found = c.in-Ok.ensures.found;
+}
+
 pub returns-in-Ok-open_hall-clause-count : goal.returns-in-Ok-open_hall-clause-count
-returns-in-Ok-open_hall-clause-count g c = ap (λ (s : Start). s.slots) c.in-Ok-open_hall.ensures.start ∙ slots_are c.args.slots _
+returns-in-Ok-open_hall-clause-count g c = ap (λ (s : Start). s.slots) c.in-Ok-open_hall.ensures.start ∙ slots_are c.args.slots _ _ _ _ _
 
 pub returns-in-Err-open_hall-clause-held : goal.returns-in-Err-open_hall-clause-held
 returns-in-Err-open_hall-clause-held g c t =

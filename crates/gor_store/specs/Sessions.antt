@@ -1,0 +1,110 @@
+-- One session of a shard: from the moment at which its disk was handed in until it comes back.
+use Rattle.std.specs.Prelude.{◌≡◌, ℕ, ◌≤◌, List, ◌++◌, map, Option, None, is_some, Bool, true, false, IsTrue, filter_map}
+use Rattle.std.specs.List.{AllByRecursion}
+use Rattle.gor_disk.specs.Disk.{DiskView, Contents, IsImageAt, LeavesSince, NothingPending, Rose}
+use Rattle.gor_model.specs.declared.event.Event.{Event}
+use Rattle.gor_model.specs.declared.start.Start.{Start}
+use Rattle.gor_model.specs.Answers.{Legal, is_stopped}
+use Rattle.gor_model.specs.Changes.{History, changes}
+use Rattle.gor_model.specs.Lists.{EachBefore}
+use Rattle.gor_model.specs.Shares.{DoneAt, done_at}
+use Rattle.gor_flush.specs.Devices.{HoldsPrefix, last_count}
+use Rattle.gor_image.specs.Fit.{IsFitFor, FitHolds}
+use Rattle.gor_text.specs.LineAnswers.{LineAnswers}
+use Rattle.gor_text.specs.Transcripts.{Transcript, text_of}
+use Rattle.gor_text.specs.declared.workload.Line.{Line}
+use Rattle.gor_store.specs.Closings.{ClosesBy, only_last}
+use Rattle.gor_store.specs.Lanes.{AreTaken}
+use Rattle.gor_store.specs.Shards.{BeginsFrom, HasClosed}
+use Rattle.gor_store.specs.Stories.{LaneRun, served_in}
+use Rattle.gor_store.specs.Works.{IsWork}
+use Rattle.gor_hall.specs.declared.pass.Pass.{Pass}
+use Rattle.gor_finish.specs.Made.{Numbered}
+
+-- ---- the disk
+
+-- the moments and the counts of the Dones of a history, the newest first
+abbrev pub dones_of : History → List DoneAt
+dones_of h = filter_map (λ (e : Event). done_at e.call e.reply) h
+
+-- as the disk that came back tells of the moment at which it was handed in, its files were fit
+abbrev pub WasFitAt : ℕ → ℕ → ℕ → DiskView → Type 0
+WasFitAt shards shard since disk = (image : Contents) → IsImageAt disk since image → IsFitFor shards shard image
+
+-- from this moment on every image is fit, and holds the state after a prefix of the changes that has at least so many of them
+abbrev pub HoldsSince : ℕ → ℕ → ℕ → DiskView → Start → History → ℕ → Type 0
+HoldsSince shards shard since disk start h n = LeavesSince since disk (HoldsPrefix shards shard start (changes h) n)
+
+-- neither the moment nor the count of a Done is below that of one before it
+abbrev pub NeverFalls : DoneAt → DoneAt → Type 0
+NeverFalls done before = (before.moment ≤ done.moment) × (before.count ≤ done.count)
+
+-- Every image of every moment of the session is fit and holds the state after a prefix of the changes of the history. The moment
+-- of each Done has come, and every image of every moment since has at least the changes that the Done counts; so has every
+-- image now for the last Done. Moments and counts of the Dones never fall.
+pub record KeepsItsWord (shards shard since : ℕ) (disk : DiskView) (start : Start) (h : History) : Type 0 where
+  pub prefixes : HoldsSince shards shard since disk start h 0
+  pub kept : AllByRecursion (λ done. (since ≤ done.moment) × (done.moment ≤ disk.moment) × HoldsSince shards shard done.moment disk start h done.count) (dones_of h)
+  pub now : HoldsSince shards shard disk.moment disk start h (last_count (dones_of h))
+  pub in_order : EachBefore NeverFalls (dones_of h)
+
+-- nothing is pending, and every image now is fit and holds the state after all changes of the history
+pub record HoldsAllNow (shards shard : ℕ) (disk : DiskView) (start : Start) (h : History) : Type 0 where
+  pub pending : NothingPending disk
+  pub all : LeavesSince disk.moment disk (λ image. FitHolds shards shard image start (changes h))
+
+-- A legal history from what the disk recovered to as it was handed in. A Stop stands in it only where the disk's faults rose,
+-- and else they are as they were. Where the disk tells its contents and its files were fit, it keeps its word.
+pub record Session {D : Type 0} (shards shard slots : ℕ) (tells : Bool) (view : D → DiskView) (faults : D → ℕ) (old new : D) (start : Start) (h : History) : Type 0 where
+  pub begins : BeginsFrom shards shard slots tells (view old) (faults old) start
+  pub legal : Legal start h
+  pub rose : is_stopped h ≡ true → Rose (faults old) (faults new)
+  pub still : is_stopped h ≡ false → faults new ≡ faults old
+  pub later : IsTrue tells → (view old).moment ≤ (view new).moment
+  pub kept : IsTrue tells → WasFitAt shards shard (view old).moment (view new) → KeepsItsWord shards shard (view old).moment (view new) start h
+
+-- A last flush ended it: a Stop stands exactly where it was not answered, and where it was, the disk holds all changes.
+pub record SessionEnds (shards shard since : ℕ) (tells : Bool) (disk : DiskView) (start : Start) (h : History) (stopped : Option ℕ) : Type 0 where
+  pub stops : is_stopped h ≡ is_some stopped
+  pub all : stopped ≡ None → IsTrue tells → WasFitAt shards shard since disk → HoldsAllNow shards shard disk start h
+
+-- ---- the text
+
+-- The text answers the lines of these phases, by a history that begins the shard's. What came after it is of lane 8 and adds
+-- no change where nothing else worked after the phases.
+pub record IsToldBy (start : Start) (phases : List (List (List Line))) (text : List ℕ) (h : History) : Type 0 where
+  pub transcript : Transcript (LineAnswers 1) 1 (λ shard. start) phases text
+  pub later : History
+  pub whole : later ++ transcript.histories 0 ≡ h
+
+pub record IsToldWhole (start : Start) (phases : List (List (List Line))) (text : List ℕ) (h : History) : Type 0 where
+  pub told : IsToldBy start phases text h
+  pub closing : AllByRecursion (λ e. e.lane ≡ 8) told.later
+  pub adds : changes h ≡ changes (told.transcript.histories 0)
+
+-- ---- what the passes of a shard did
+
+-- these phases were run, and then some last events were made
+pub record HaveServed (passes : List Pass) (phases : List (List (List Line))) (last : ℕ → List Numbered) (text : List ℕ) : Type 0 where
+  pub runs : List (List LaneRun)
+  pub work : IsWork 0 passes runs last
+  pub lines : map (map (map (λ s. s.line))) (served_in runs) ≡ phases
+  pub answered : AllByRecursion (AllByRecursion (AllByRecursion (λ s. LineAnswers 1 s.line s.acts))) (served_in runs)
+  pub tells : text ≡ text_of (served_in runs)
+
+-- ---- the laws: what stands once a shard has closed
+
+module _ {D : Type 0} (tells : Bool) (view : D → DiskView) (faults : D → ℕ) where
+  -- whatever its passes did
+  abbrev pub SessionStands : Type 0
+  SessionStands = (slots : ℕ) (old new : D) (start : Start) (passes : List Pass) (phases : List (List (List Line))) (last : ℕ → List Numbered) (text : List ℕ)
+      → BeginsFrom 1 0 slots tells (view old) (faults old) start → AllByRecursion (AllByRecursion AreTaken) phases
+      → HaveServed passes phases last text → (closed : HasClosed tells view faults start 9 passes new)
+      → Session 1 0 slots tells view faults old new start closed.history × IsToldBy start phases text closed.history
+
+  -- where nothing but a last flush came after the phases
+  abbrev pub SessionIsWhole : Type 0
+  SessionIsWhole = (shards shard since : ℕ) (new : D) (start : Start) (passes : List Pass) (phases : List (List (List Line))) (text : List ℕ) (stopped : Option ℕ) (events : List Numbered)
+      → shards ≡ start.shards → shard ≡ start.shard → since ≡ start.since → AllByRecursion (AllByRecursion AreTaken) phases
+      → HaveServed passes phases (only_last events) text → ClosesBy stopped events → (closed : HasClosed tells view faults start 9 passes new)
+      → IsToldWhole start phases text closed.history × SessionEnds shards shard since tells (view new) start closed.history stopped
