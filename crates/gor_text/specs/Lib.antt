@@ -4,3 +4,4 @@ pub mod Spelling
 pub mod LineAnswers
 pub mod Transcripts
 pub mod Interleaved
+pub mod Dumps

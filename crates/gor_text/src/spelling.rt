@@ -6,7 +6,7 @@ use gor_model::{Merged, Point, Points, Reply};
 use std::alloc::{AllocError, Global};
 
 /// Adds a text of the program's own.
-fn push_text(out: &mut Vec<u8>, text: &[u8]) -> Result<(), AllocError>
+pub(crate) fn push_text(out: &mut Vec<u8>, text: &[u8]) -> Result<(), AllocError>
     ensures { OnOk result (out.new.items ≡ out.old.items ++ text.now) }
 {
     out.extend_from_slice(text)
@@ -14,7 +14,7 @@ fn push_text(out: &mut Vec<u8>, text: &[u8]) -> Result<(), AllocError>
 
 /// Adds a number in decimal digits.
 #[tactic(auto, using(std::proofs::lemmas::Fmt::decimal_step, std::proofs::lemmas::Fmt::decimal_digit))]
-fn push_number(out: &mut Vec<u8>, number: u64) -> Result<(), AllocError>
+pub(crate) fn push_number(out: &mut Vec<u8>, number: u64) -> Result<(), AllocError>
     ensures { OnOk result (out.new.items ≡ out.old.items ++ decimal number) }
 {
     if number < 10 {
@@ -69,7 +69,7 @@ fn push_point(out: &mut Vec<u8>, point: Point) -> Result<(), AllocError>
 }
 
 /// Adds each point of a list.
-fn push_points(out: &mut Vec<u8>, points: &Points) -> Result<(), AllocError>
+pub(crate) fn push_points(out: &mut Vec<u8>, points: &Points) -> Result<(), AllocError>
     ensures { OnOk result (out.new.items ≡ out.old.items ++ flat_map point_text points.now) }
 {
     for point in points.as_slice() {
@@ -101,7 +101,7 @@ fn push_merged(out: &mut Vec<u8>, points: &MergedPoints) -> Result<(), AllocErro
 }
 
 /// Adds a word of the answers and the number behind it.
-fn push_counted(out: &mut Vec<u8>, text: &[u8], number: u64) -> Result<(), AllocError>
+pub(crate) fn push_counted(out: &mut Vec<u8>, text: &[u8], number: u64) -> Result<(), AllocError>
     ensures { OnOk result (out.new.items ≡ out.old.items ++ (text.now ++ decimal number)) }
 {
     push_text(out, text)?;
