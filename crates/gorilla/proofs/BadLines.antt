@@ -8,7 +8,7 @@ use Rattle.gor_text.specs.declared.workload.Line.{Line}
 use Rattle.gor_text.specs.declared.workload.Item.{Item}
 use Rattle.gor_text.specs.Grammar.{lines_of, item_of}
 use Rattle.gor_text.specs.Workloads.{is_good_line, IsWorkloadText, IsFirstBad}
-use Rattle.gorilla.specs.PointLines.{is_point_item}
+use Rattle.gorilla.specs.TakenLines.{is_taken_item}
 use Rattle.gorilla.specs.Inputs.{IsWhole}
 
 -- a source that tells its bytes was read to just these
@@ -54,5 +54,5 @@ all_good accepts (line ∷ lines) (item ∷ items) said accepted =
     let parts = and_parts (accepts item) (list_all accepts items) accepted in
     and_from (is_good_line accepts line) (list_all (is_good_line accepts) lines) (good_one accepts line item here parts.0) (all_good accepts lines items rest parts.1)
 
-pub said_has_none : (input : List ℕ) (phases : List (List (List Line))) (n : ℕ) → IsWorkloadText is_point_item input phases → IsFirstBad is_point_item input n → ⊥
-said_has_none input phases n said b = good_has_none is_point_item input n (all_good is_point_item (lines_of input) said.items said.said said.accepted) b
+pub said_has_none : (input : List ℕ) (phases : List (List (List Line))) (n : ℕ) → IsWorkloadText is_taken_item input phases → IsFirstBad is_taken_item input n → ⊥
+said_has_none input phases n said b = good_has_none is_taken_item input n (all_good is_taken_item (lines_of input) said.items said.said said.accepted) b

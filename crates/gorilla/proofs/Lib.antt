@@ -1,11 +1,10 @@
 pub mod KnownParts
 pub mod OutputParts
 pub mod InputParts
-pub mod PointRun
-pub mod LineSteps
-pub mod LoopSteps
+pub mod PhaseSteps
 pub mod Taken
 pub mod BadLines
+pub mod ServeEnds
 pub mod RunSteps
-pub mod ShareSteps
-pub mod ShardSteps
+pub mod RunEnds
+mod DumpParts

@@ -1,24 +1,24 @@
--- The end of a run: what was written is the answer to its input, whole or in part.
-use Rattle.std.proofs.Common.{◌≡◌, ℕ, ◌≤◌, List, [], ◌∷◌, Option, Some, None, Bool, true, false, refl, arith}
-use Rattle.std.specs.Prelude.{nat_eq, nat_le, ◌&&◌}
-use Rattle.std.proofs.lemmas.Bool.{and_parts, leb-true}
+-- The end of a run: each clause of it from what stands on an open store, and from why there was none.
+use Rattle.std.proofs.Common.{◌≡◌, ◌⊎◌, inl, inr, ℕ, ◌<◌, ◌≤◌, List, [], ◌∷◌, length, Option, Some, None, Bool, true, false, refl, sym, ap, subst, ◌∙◌, arith}
+use Rattle.std.specs.Prelude.{nat_eq, nat_le, ◌&&◌, codes}
+use Rattle.std.specs.Io.KnownBytes.{Consumes, Keeps}
 use Rattle.std.specs.Str.{bytes_eq}
-use Rattle.std.specs.Prelude.{codes}
+use Rattle.std.proofs.lemmas.Bool.{and_parts, leb-true}
+use Rattle.std.proofs.lemmas.List.{length-append}
+use Rattle.gor_outside.specs.Causes.{Rose}
 use Rattle.gor_text.specs.declared.workload.Line.{Line}
-use Rattle.gor_text.specs.Workloads.{IsWorkloadText}
-use Rattle.gor_text.specs.Transcripts.{text_of}
-use Rattle.gorilla.specs.declared.shard.Shard.{Shard}
+use Rattle.gor_text.specs.Workloads.{IsWorkloadText, IsFirstBad}
+use Rattle.gorilla.specs.Dumps.{CallsFirst}
+use Rattle.gorilla.specs.Inputs.{IsWhole, IsTooLong, most_input}
+use Rattle.gorilla.specs.Runs.{HasBadLine, IsGoodInput}
+use Rattle.gorilla.specs.Statuses.{IsRead, IsReadFault}
+use Rattle.gorilla.specs.TakenLines.{is_taken_item}
+use Rattle.gorilla.specs.declared.status.Status.{Status}
+use Rattle.gorilla.specs.declared.status.Status.TheVariants as status
 use Rattle.gorilla.specs.declared.words.Given.{Given}
 use Rattle.gorilla.specs.declared.words.Given.TheVariants.{Shards, Slots}
 use Rattle.gorilla.specs.Words.{Found, first_option, slots_for, slots_of_one, slots_of_two, ended, slots_of_last, slots_behind, slots_from, slots_of_options, slots_of_run, most_slots}
-use Rattle.gorilla.specs.Inputs.{IsWhole}
-use Rattle.gorilla.specs.PointLines.{is_point_item}
-use Rattle.gorilla.specs.Shards.{Serves}
-use Rattle.gorilla.specs.Serving.{serve_phases}
-use Rattle.gorilla.specs.Answering.{SinkGrows, SinkGrowsInPart}
-use Rattle.gorilla.specs.Runs.{empty_start, IsAnswerTo, Answers, AnswersInPart}
-use Rattle.gorilla.proofs.PointRun.{point_transcript}
-use Rattle.gorilla.proofs.Taken.{text_taken, all_taken}
+use Rattle.gorilla.proofs.BadLines.{same_input, one_first, good_has_none, said_has_none}
 
 -- ---- the slots that words give are within the limit
 
@@ -74,31 +74,107 @@ run_within (word ∷ rest) n is = at (bytes_eq word (codes "run")) refl where
   at true named = options_within rest n (rw named at is)
   at false other = nothing_within n (rw other at is)
 
--- ---- what was written
+-- ---- the first of the disks
 
-answer_is : (slots : ℕ) (input : List ℕ) (phases : List (List (List Line))) → IsWorkloadText is_point_item input phases → IsAnswerTo slots input (text_of (serve_phases (empty_start slots) [] phases))
-answer_is slots input phases said = record { phases = phases; said = said; transcript = point_transcript (empty_start slots) phases (all_taken phases (text_taken input phases said)) }
+-- some disks are a first one and others
+pub record HasFirst {D : Type 0} (disks : List D) : Type 0 where
+  pub first : D
+  pub others : List D
+  pub are : disks ≡ first ∷ others
 
-pub all_answered : (words : List (List ℕ)) (slots : ℕ) (before after held now : Option (List ℕ)) (input : List ℕ) (phases : List (List (List Line))) (shard : Shard) → slots_of_run words ≡ Some slots → IsWhole before after input
-    → IsWorkloadText is_point_item input phases → Serves (empty_start slots) [] shard → SinkGrows shard held now phases → Answers words before after held now
-all_answered words slots before after held now input phases shard asked read said serves grows = record {
-  slots = slots;
-  input = input;
-  text = text_of (serve_phases (empty_start slots) [] phases);
-  asked = asked;
-  read = read;
-  answer = answer_is slots input phases said;
-  written = grows (empty_start slots) [] serves;
-}
+pub first_of : {D : Type 0} (disks : List D) → length disks ≡ 16 → HasFirst disks
+first_of [] sixteen = absurd (omega (arith, sixteen))
+first_of (first ∷ others) sixteen = record { first = first; others = others; are = refl }
 
-pub some_answered : (words : List (List ℕ)) (slots : ℕ) (before after held now : Option (List ℕ)) (input : List ℕ) (phases : List (List (List Line))) (shard : Shard) → slots_of_run words ≡ Some slots → IsWhole before after input
-    → IsWorkloadText is_point_item input phases → Serves (empty_start slots) [] shard → SinkGrowsInPart shard held now phases → AnswersInPart words before after held now
-some_answered words slots before after held now input phases shard asked read said serves grows = record {
-  slots = slots;
-  input = input;
-  text = text_of (serve_phases (empty_start slots) [] phases);
-  asked = asked;
-  read = read;
-  answer = answer_is slots input phases said;
-  written = grows (empty_start slots) [] serves;
-}
+pub calls_first : {D : Type 0} (P : D → D → Type 0) (first now : D) (others disks backs : List D) → disks ≡ first ∷ others → backs ≡ now ∷ others → P first now → CallsFirst P disks backs
+calls_first P first now others disks backs are come holds =
+    subst (λ (ds : List _). CallsFirst P ds backs) (sym are) (subst (λ (bs : List _). CallsFirst P (first ∷ others) bs) (sym come) (holds, refl))
+
+pub calls_as : {D : Type 0} (P Q : D → D → Type 0) (disks backs : List D) → ((first now : D) → P first now → Q first now) → CallsFirst P disks backs → CallsFirst Q disks backs
+calls_as P Q [] backs goes calls = absurd calls
+calls_as P Q (first ∷ others) [] goes calls = absurd calls
+calls_as P Q (first ∷ others) (now ∷ backs) goes calls = (goes first now calls.0, calls.1)
+
+pub calls_any : {D : Type 0} (P : D → D → Type 0) (A : Type 0) (disks backs : List D) → ((first now : D) → P first now → A) → CallsFirst P disks backs → A
+calls_any P A [] backs goes calls = absurd calls
+calls_any P A (first ∷ others) [] goes calls = absurd calls
+calls_any P A (first ∷ others) (now ∷ backs) goes calls = goes first now calls.0
+
+known_first : {D : Type 0} (P Q : D → D → Type 0) (first : D) (others backs : List D) → ((now : D) → P first now → Q first now) → CallsFirst P (first ∷ others) backs → CallsFirst Q (first ∷ others) backs
+known_first P Q first others [] goes calls = absurd calls
+known_first P Q first others (now ∷ backs) goes calls = (goes now calls.0, calls.1)
+
+-- of a first disk that is known
+pub calls_known : {D : Type 0} (P Q : D → D → Type 0) (first : D) (others disks backs : List D) → disks ≡ first ∷ others → ((now : D) → P first now → Q first now) → CallsFirst P disks backs → CallsFirst Q disks backs
+calls_known P Q first others disks backs are goes calls =
+    subst (λ (ds : List _). CallsFirst Q ds backs) (sym are) (known_first P Q first others backs goes (subst (λ (ds : List _). CallsFirst P ds backs) are calls))
+
+-- no disk was called
+pub not_called : {D : Type 0} (P : D → D → Type 0) (disks : List D) → length disks ≡ 16 → ((first : D) → P first first) → CallsFirst P disks disks
+not_called P disks sixteen holds = let f = first_of disks sixteen in calls_first P f.first f.first f.others disks disks f.are f.are (holds f.first)
+
+-- ---- no phases were read
+
+pub keeps_itself : (a : Option (List ℕ)) → Keeps a a
+keeps_itself None = tt
+keeps_itself (Some xs) = refl
+
+pub no_fault : (before after : Option (List ℕ)) (faults_before faults_after : ℕ) (s t : Status) → (IsReadFault before after faults_before faults_after t → ⊥) → IsReadFault before after faults_before faults_after s → s ≡ t → ⊥
+no_fault before after faults_before faults_after s t never fault is = never (subst (IsReadFault before after faults_before faults_after) is fault)
+
+consumed_short : (after : Option (List ℕ)) (bytes input : List ℕ) → Consumes (Some input) after bytes → length bytes ≤ length input
+consumed_short None bytes input given = absurd given
+consumed_short (Some rest) bytes input given = let l = length-append bytes rest in let m = ap length given in omega arith
+
+module _ (before after : Option (List ℕ)) (faults_before faults_after : ℕ) (input : List ℕ) (told : before ≡ Some input) where
+  not_long : IsTooLong before after → length input ≤ most_input → ⊥
+  not_long long short = let l = consumed_short after long.bytes input (subst (λ b. Consumes b after long.bytes) told long.given) in omega (arith, l, short, long.long)
+
+  whole_short : (bytes : List ℕ) → IsWhole before after bytes → most_input < length input → ⊥
+  whole_short bytes whole long = let same : length bytes ≡ length input = ap length (same_input before after bytes input whole told) in omega (arith, same, whole.short, long)
+
+  module _ (quiet : ¬ (Rose faults_before faults_after)) where
+    pub long_unread : (s : Status) → IsReadFault before after faults_before faults_after s → most_input < length input → (s ≡ status.TooLong) ⊎ (s ≡ status.NoMemory)
+    long_unread status.ReadFault fault long = absurd (quiet fault)
+    long_unread status.TooLong fault long = inl refl
+    long_unread (status.BadLine line) fault long = absurd (whole_short fault.input fault.read long)
+    long_unread status.NoMemory fault long = inr refl
+    long_unread status.Ok fault long = absurd fault
+    long_unread status.Words fault long = absurd fault
+    long_unread (status.NotOpened shard image) fault long = absurd fault
+    long_unread (status.DeviceFault shard) fault long = absurd fault
+    long_unread status.WriteFault fault long = absurd fault
+
+    same_line : (line n : ℕ) → HasBadLine before after line → IsFirstBad is_taken_item input n → line ≡ n
+    same_line line n has bad =
+        one_first is_taken_item input line n (subst (λ i. IsFirstBad is_taken_item i line) (same_input before after has.input input has.read told) has.bad) bad
+
+    pub bad_unread : (n : ℕ) (s : Status) → IsReadFault before after faults_before faults_after s → length input ≤ most_input → IsFirstBad is_taken_item input n → (s ≡ status.BadLine n) ⊎ (s ≡ status.NoMemory)
+    bad_unread n status.ReadFault fault short bad = absurd (quiet fault)
+    bad_unread n status.TooLong fault short bad = absurd (not_long fault short)
+    bad_unread n (status.BadLine line) fault short bad = inl (ap status.BadLine (same_line line n fault bad))
+    bad_unread n status.NoMemory fault short bad = inr refl
+    bad_unread n status.Ok fault short bad = absurd fault
+    bad_unread n status.Words fault short bad = absurd fault
+    bad_unread n (status.NotOpened shard image) fault short bad = absurd fault
+    bad_unread n (status.DeviceFault shard) fault short bad = absurd fault
+    bad_unread n status.WriteFault fault short bad = absurd fault
+
+    pub good_unread : (s : Status) → IsReadFault before after faults_before faults_after s → IsGoodInput input → s ≡ status.NoMemory
+    good_unread status.ReadFault fault good = absurd (quiet fault)
+    good_unread status.TooLong fault good = absurd (not_long fault good.short)
+    good_unread (status.BadLine line) fault good =
+        absurd (good_has_none is_taken_item input line good.good (subst (λ i. IsFirstBad is_taken_item i line) (same_input before after fault.input input fault.read told) fault.bad))
+    good_unread status.NoMemory fault good = refl
+    good_unread status.Ok fault good = absurd fault
+    good_unread status.Words fault good = absurd fault
+    good_unread (status.NotOpened shard image) fault good = absurd fault
+    good_unread (status.DeviceFault shard) fault good = absurd fault
+    good_unread status.WriteFault fault good = absurd fault
+
+  -- what was read is not too long, and has no bad line
+  pub read_not_long : (phases : List (List (List Line))) → IsRead before after phases → most_input < length input → ⊥
+  read_not_long phases read long = whole_short read.input read.whole long
+
+  pub read_not_bad : (phases : List (List (List Line))) (n : ℕ) → IsRead before after phases → IsFirstBad is_taken_item input n → ⊥
+  read_not_bad phases n read bad = said_has_none input phases n (subst (λ i. IsWorkloadText is_taken_item i phases) (same_input before after read.input input read.whole told) read.said) bad

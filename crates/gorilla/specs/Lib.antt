@@ -1,9 +1,8 @@
 pub mod Inputs
 pub mod Outputs
 pub mod Words
-pub mod PointLines
-pub mod Serving
-pub mod Shards
-pub mod Answering
+pub mod TakenLines
 pub mod Runs
+pub mod Serving
 pub mod Statuses
+pub mod Dumps

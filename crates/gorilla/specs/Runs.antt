@@ -1,56 +1,125 @@
--- What a run reads and writes.
-use Rattle.std.specs.Prelude.{◌≡◌, ℕ, ◌≤◌, List, [], length, Option, Some, IsTrue}
+-- What a run reads, what it writes, and what it leaves on its disks.
+use Rattle.std.specs.Prelude.{◌≡◌, ◌⊎◌, ℕ, ◌≤◌, List, [], ◌∷◌, ◌++◌, length, Option, Some, None, Bool, IsTrue}
 use Rattle.std.specs.List.{list_all}
 use Rattle.std.specs.Io.KnownBytes.{Appends}
+use Rattle.gor_disk.specs.Disk.{DiskView}
+use Rattle.gor_outside.specs.Causes.{Rose}
 use Rattle.gor_model.specs.declared.start.Start.{Start}
+use Rattle.gor_model.specs.Changes.{History}
+use Rattle.gor_image.specs.declared.recovered.OpenFault.{OpenFault}
 use Rattle.gor_text.specs.declared.workload.Line.{Line}
 use Rattle.gor_text.specs.Workloads.{IsWorkloadText, IsFirstBad, is_good_line}
 use Rattle.gor_text.specs.Grammar.{lines_of}
-use Rattle.gor_text.specs.LineAnswers.{PointAnswers}
-use Rattle.gor_text.specs.Transcripts.{Transcript}
+use Rattle.gor_store.specs.Sessions.{Session, SessionEnds, IsToldBy, IsToldWhole}
+use Rattle.gor_store.specs.Stores.{WasRefused}
 use Rattle.gorilla.specs.Inputs.{most_input, IsWhole}
 use Rattle.gorilla.specs.Words.{slots_of_run}
 use Rattle.gorilla.specs.Outputs.{AppendsPart}
-use Rattle.gorilla.specs.PointLines.{is_point_item}
+use Rattle.gorilla.specs.TakenLines.{is_taken_item}
 
--- nothing is kept yet, and so many series have a slot
-unfoldable pub empty_start : ℕ → Start
-empty_start slots = record { slots = slots; floor = 0; next = 1; rows = [] }
+-- ---- what was asked for
 
--- the text that answers an input, by the plain map from the empty start
-pub record IsAnswerTo (slots : ℕ) (input text : List ℕ) : Type 0 where
-  pub phases : List (List (List Line))
-  pub said : IsWorkloadText is_point_item input phases
-  pub transcript : Transcript (PointAnswers 1) 1 (λ shard. empty_start slots) phases text
-
--- the words are those of a run with so many slots, the source was read to its end within the limit, and what the sink holds
--- grew by the answer to what was read
-pub record Answers (words : List (List ℕ)) (before after held now : Option (List ℕ)) : Type 0 where
-  pub slots : ℕ
+-- the words are those of a run with so many slots, the source was read to its end within the limit, and these are the phases of
+-- what was read
+pub record IsAsked (words : List (List ℕ)) (before after : Option (List ℕ)) (slots : ℕ) (phases : List (List (List Line))) : Type 0 where
   pub input : List ℕ
-  pub text : List ℕ
   pub asked : slots_of_run words ≡ Some slots
   pub read : IsWhole before after input
-  pub answer : IsAnswerTo slots input text
-  pub written : Appends held now text
-
--- the same, but what the sink holds grew by a front of the answer alone
-pub record AnswersInPart (words : List (List ℕ)) (before after held now : Option (List ℕ)) : Type 0 where
-  pub slots : ℕ
-  pub input : List ℕ
-  pub text : List ℕ
-  pub asked : slots_of_run words ≡ Some slots
-  pub read : IsWhole before after input
-  pub answer : IsAnswerTo slots input text
-  pub written : AppendsPart held now text
+  pub said : IsWorkloadText is_taken_item input phases
 
 -- the source was read to its end within the limit, and line n is the first that is bad
 pub record HasBadLine (before after : Option (List ℕ)) (n : ℕ) : Type 0 where
   pub input : List ℕ
   pub read : IsWhole before after input
-  pub bad : IsFirstBad is_point_item input n
+  pub bad : IsFirstBad is_taken_item input n
 
 -- an input within the limit, every line of which is taken
 pub record IsGoodInput (input : List ℕ) : Type 0 where
   pub short : length input ≤ most_input
-  pub good : IsTrue (list_all (is_good_line is_point_item) (lines_of input))
+  pub good : IsTrue (list_all (is_good_line is_taken_item) (lines_of input))
+
+-- ---- the session of a disk
+
+module _ {D : Type 0} (tells : Bool) (view : D → DiskView) (faults : D → ℕ) where
+  -- a session on the disk, from its opening with so many slots, whose history begins with what the text tells of these phases
+  pub record HeldSession (slots : ℕ) (disk now : D) (phases : List (List (List Line))) (text : List ℕ) : Type 0 where
+    pub start : Start
+    pub history : History
+    pub session : Session 1 0 slots tells view faults disk now start history
+    pub told : IsToldBy start phases text history
+
+  -- and its history is what the text tells of these phases, and then a last flush, which was answered or met a Stop
+  pub record HeldWhole (slots : ℕ) (disk now : D) (phases : List (List (List Line))) (text : List ℕ) (stopped : Option ℕ) : Type 0 where
+    pub start : Start
+    pub history : History
+    pub session : Session 1 0 slots tells view faults disk now start history
+    pub told : IsToldWhole start phases text history
+    pub ends : SessionEnds 1 0 (view disk).moment tells (view now) start history stopped
+
+  -- ---- what a session writes, by how it ended; phases that were not run are `rest`
+
+  -- the sink grew by the text of all phases, and all is on the disk
+  pub record EndsWell (slots : ℕ) (phases : List (List (List Line))) (held written : Option (List ℕ)) (disk now : D) : Type 0 where
+    pub text : List ℕ
+    pub whole : HeldWhole slots disk now phases text None
+    pub appended : Appends held written text
+
+  -- the shard is stopped: the sink grew by the text of all phases and did not fail, or it failed and grew by a front of the text of those that were run
+  pub record EndsStopped (slots : ℕ) (phases : List (List (List Line))) (held written : Option (List ℕ)) (before after : ℕ) (disk now : D) : Type 0 where
+    pub run : List (List (List Line))
+    pub rest : List (List (List Line))
+    pub parts : phases ≡ run ++ rest
+    pub text : List ℕ
+    pub whole : HeldWhole slots disk now run text (Some 0)
+    pub appended : ((rest ≡ []) × Appends held written text × (after ≡ before)) ⊎ (AppendsPart held written text × Rose before after)
+
+  -- the sink failed: it grew by a front of the text of the phases that were run
+  pub record EndsUnwritten (slots : ℕ) (phases : List (List (List Line))) (held written : Option (List ℕ)) (disk now : D) : Type 0 where
+    pub run : List (List (List Line))
+    pub rest : List (List (List Line))
+    pub parts : phases ≡ run ++ rest
+    pub text : List ℕ
+    pub whole : HeldWhole slots disk now run text None
+    pub appended : AppendsPart held written text
+
+  -- memory was wanting in a phase: the sink grew by the text of those before it
+  pub record EndsInPart (slots : ℕ) (phases : List (List (List Line))) (held written : Option (List ℕ)) (disk now : D) : Type 0 where
+    pub run : List (List (List Line))
+    pub rest : List (List (List Line))
+    pub parts : phases ≡ run ++ rest
+    pub text : List ℕ
+    pub part : HeldSession slots disk now run text
+    pub appended : Appends held written text
+
+  -- ---- the same of a run, whose phases the source gave
+
+  pub record Answers (words : List (List ℕ)) (before after held written : Option (List ℕ)) (disk now : D) : Type 0 where
+    pub slots : ℕ
+    pub phases : List (List (List Line))
+    pub asked : IsAsked words before after slots phases
+    pub ends : EndsWell slots phases held written disk now
+
+  pub record Stops (words : List (List ℕ)) (before after held written : Option (List ℕ)) (faults_before faults_after : ℕ) (disk now : D) : Type 0 where
+    pub slots : ℕ
+    pub phases : List (List (List Line))
+    pub asked : IsAsked words before after slots phases
+    pub ends : EndsStopped slots phases held written faults_before faults_after disk now
+
+  pub record BreaksOff (words : List (List ℕ)) (before after held written : Option (List ℕ)) (disk now : D) : Type 0 where
+    pub slots : ℕ
+    pub phases : List (List (List Line))
+    pub asked : IsAsked words before after slots phases
+    pub ends : EndsUnwritten slots phases held written disk now
+
+  pub record RunsShort (words : List (List ℕ)) (before after held written : Option (List ℕ)) (disk now : D) : Type 0 where
+    pub slots : ℕ
+    pub phases : List (List (List Line))
+    pub asked : IsAsked words before after slots phases
+    pub ends : EndsInPart slots phases held written disk now
+
+  -- the disk was not opened for this fault, and nothing was written
+  pub record IsUnopened (words : List (List ℕ)) (before after : Option (List ℕ)) (fault : OpenFault) (disk now : D) : Type 0 where
+    pub slots : ℕ
+    pub phases : List (List (List Line))
+    pub asked : IsAsked words before after slots phases
+    pub refused : WasRefused 1 0 slots tells view faults fault disk now

@@ -1,71 +1,107 @@
--- What the lines of lanes are answered that run one after another, on one shard.
-use Rattle.std.specs.Prelude.{ℕ, ◌+◌, List, [], ◌∷◌, length, nat_le, if◌then◌else◌}
-use Rattle.gor_model.specs.declared.event.Call.{Call}
-use Rattle.gor_model.specs.declared.event.Call.TheVariants as call
-use Rattle.gor_model.specs.declared.start.Start.{Start}
-use Rattle.gor_model.specs.Windows.{greatest_time}
-use Rattle.gor_model.specs.Names.{key_of}
-use Rattle.gor_model.specs.Changes.{History}
-use Rattle.gor_model.specs.Answers.{answer}
-use Rattle.gor_model.specs.Replies.{answered}
-use Rattle.gor_name.specs.NameTest.{is_name}
-use Rattle.gor_text.specs.declared.answer.Reason.{Reason}
-use Rattle.gor_text.specs.declared.answer.Reason.TheVariants as reason
+-- What a run does with an open store: it answers phases, writes their text, ends, and says how.
+use Rattle.std.specs.Prelude.{◌≡◌, ℕ, ◌≤◌, List, [], ◌∷◌, ◌++◌, flat_map, sum_by, length, Option, Some, None, Result, Ok, Err, Bool}
+use Rattle.std.specs.Io.KnownBytes.{Appends}
+use Rattle.gor_disk.specs.Disk.{DiskView}
+use Rattle.gor_disk.specs.Disk as disk
+use Rattle.gor_outside.specs.Causes.{Rose}
+use Rattle.gor_finish.specs.Made.{Numbered}
+use Rattle.gor_hall.specs.declared.pass.Pass.{Pass}
+use Rattle.gor_hall.specs.Halls.{start_of}
+use Rattle.gor_hall.specs.Passes.{made}
+use Rattle.gor_image.specs.declared.recovered.OpenFault.{OpenFault}
+use Rattle.gor_image.specs.declared.recovered.OpenFault.TheVariants as refused
+use Rattle.gor_text.specs.declared.answer.LaneAnswer.{LaneAnswer}
 use Rattle.gor_text.specs.declared.workload.Line.{Line}
-use Rattle.gor_text.specs.declared.workload.Line.TheVariants.{Put, Get, Del}
-use Rattle.gor_text.specs.LineAnswers.{Act, Made, Refused}
-use Rattle.gor_text.specs.Transcripts.{Served}
+use Rattle.gor_text.specs.Spelling.{answer_line}
+use Rattle.gor_store.specs.Closings.{ClosesBy, only_last}
+use Rattle.gor_store.specs.Phases.{RanPhase}
+use Rattle.gor_store.specs.Sessions.{HaveServed}
+use Rattle.gor_store.specs.Shards.{HasClosed}
+use Rattle.gor_store.specs.Stores.{events_of, others_of, passes_of}
+use Rattle.gor_store.specs.Stories.{AllFrom, LaneRun, count_all}
+use Rattle.gor_store.specs.Works.{HaveAdded, nothing}
+use Rattle.gor_store.specs.declared.store.Store.{Store}
+use Rattle.gorilla.specs.Outputs.{AppendsPart}
+use Rattle.gorilla.specs.Runs.{EndsWell, EndsStopped, EndsUnwritten, EndsInPart}
+use Rattle.gorilla.specs.declared.serving.PhaseFault.{PhaseFault}
+use Rattle.gorilla.specs.declared.serving.PhaseFault.TheVariants as fault
+use Rattle.gorilla.specs.declared.status.Status.{Status}
+use Rattle.gorilla.specs.declared.status.Status.TheVariants as status
 
--- a line is a call of the shard, or refused for its arguments
-pub data Asked : Type 0 where
-  Calls : Call → Asked
-  Refuses : Reason → Asked
+-- a phase was run, and the text tells its answers
+pub record AnswersPhase (lines : List (List Line)) (before : ℕ) (olds news : List Pass) (text : List ℕ) : Type 0 where
+  pub told : List LaneAnswer
+  pub ran : RanPhase lines before olds news told
+  pub is : text ≡ flat_map answer_line told
 
--- the first refusal that holds, or the call
-abbrev pub asked : Line → Asked
-asked (Put name time word) =
-    if is_name name then (if nat_le time greatest_time then Calls (call.Put name (key_of name) time word) else Refuses reason.Time) else Refuses reason.Name
-asked (Get name from to) = if is_name name then (if nat_le from to then Calls (call.Get (key_of name) from to) else Refuses reason.Range) else Refuses reason.Name
-asked (Del name) = if is_name name then Calls (call.Del (key_of name)) else Refuses reason.Name
-asked _ = Refuses reason.Shard
+-- ---- what was written of some phases
 
-abbrev pub acts_of : Start → History → Asked → List Act
-acts_of start H (Calls c) = Made 0 (length H) c (answer start H c) ∷ []
-acts_of start H (Refuses why) = Refused why ∷ []
+-- all of them were run, and the sink grew by their text
+pub record WroteAll (passes : List Pass) (phases : List (List (List Line))) (held written : Option (List ℕ)) : Type 0 where
+  pub text : List ℕ
+  pub served : HaveServed passes phases nothing text
+  pub appended : Appends held written text
 
-abbrev pub after_line : Start → ℕ → History → Asked → History
-after_line start lane H (Calls c) = answered start lane c H ∷ H
-after_line start lane H (Refuses why) = H
+-- a write failed: the sink grew by a front of the text of those that were run
+pub record WroteInPart (passes : List Pass) (phases : List (List (List Line))) (held written : Option (List ℕ)) : Type 0 where
+  pub run : List (List (List Line))
+  pub rest : List (List (List Line))
+  pub parts : phases ≡ run ++ rest
+  pub text : List ℕ
+  pub served : HaveServed passes run nothing text
+  pub appended : AppendsPart held written text
 
-abbrev pub serve_lines : Start → ℕ → History → List Line → List Served
-serve_lines start lane H [] = []
-serve_lines start lane H (line ∷ lines) = record { line = line; acts = acts_of start H (asked line) } ∷ serve_lines start lane (after_line start lane H (asked line)) lines
+-- memory was wanting in a phase: the sink grew by the text of those before it, and some events were made behind them
+pub record WroteUntil (passes : List Pass) (phases : List (List (List Line))) (held written : Option (List ℕ)) : Type 0 where
+  pub run : List (List (List Line))
+  pub rest : List (List (List Line))
+  pub parts : phases ≡ run ++ rest
+  pub text : List ℕ
+  pub more : ℕ → List Numbered
+  pub served : HaveServed passes run more text
+  pub eight : (k : ℕ) → 8 ≤ k → more k ≡ []
+  pub counted : count_all served.runs ≤ sum_by (λ p. length (made p)) passes
+  pub appended : Appends held written text
 
-abbrev pub after_lines : Start → ℕ → History → List Line → History
-after_lines start lane H [] = H
-after_lines start lane H (line ∷ lines) = after_lines start lane (after_line start lane H (asked line)) lines
+abbrev pub HasWritten : {T : Type 0} → Result T PhaseFault → List Pass → List (List (List Line)) → (held written : Option (List ℕ)) → (before after : ℕ) → Type 0
+HasWritten (Ok v) passes phases held written before after = WroteAll passes phases held written × (after ≡ before)
+HasWritten (Err fault.Write) passes phases held written before after = WroteInPart passes phases held written × Rose before after
+HasWritten (Err fault.NoMemory) passes phases held written before after = WroteUntil passes phases held written × (after ≡ before)
 
-abbrev pub serve_lanes : Start → ℕ → History → List (List Line) → List (List Served)
-serve_lanes start lane H [] = []
-serve_lanes start lane H (lines ∷ lanes) = serve_lines start lane H lines ∷ serve_lanes start (lane + 1) (after_lines start lane H lines) lanes
+-- ---- how a store ended
 
-abbrev pub after_lanes : Start → ℕ → History → List (List Line) → History
-after_lanes start lane H [] = H
-after_lanes start lane H (lines ∷ lanes) = after_lanes start (lane + 1) (after_lines start lane H lines) lanes
+-- lane 8 made the events of a last flush, and the disk is that of the shard as its hall closed
+pub record HasEnded {D : Type 0} (tells : Bool) (view : D → DiskView) (faults : D → ℕ) (store : Store D) (stopped : Option ℕ) (disks : List D) : Type 0 where
+  pub disk : D
+  pub are : disks ≡ disk ∷ others_of store
+  pub passes : List Pass
+  pub events : List Numbered
+  pub closes : ClosesBy stopped events
+  pub added : HaveAdded (passes_of store) passes (only_last events)
+  pub from : AllFrom (events_of store) events
+  pub closed : HasClosed tells view faults (start_of store.hall) 9 passes disk
 
-abbrev pub serve_phases : Start → History → List (List (List Line)) → List (List (List Served))
-serve_phases start H [] = []
-serve_phases start H (lanes ∷ phases) = serve_lanes start 0 H lanes ∷ serve_phases start (after_lanes start 0 H lanes) phases
+-- want of memory in a phase comes first, then a stopped shard, then a failed write
+abbrev pub unless_stopped : Option ℕ → Status → Status
+unless_stopped (Some shard) other = status.DeviceFault shard
+unless_stopped None other = other
 
-abbrev pub after_phases : Start → History → List (List (List Line)) → History
-after_phases start H [] = H
-after_phases start H (lanes ∷ phases) = after_phases start (after_lanes start 0 H lanes) phases
+abbrev pub status_by : {T : Type 0} → Result T PhaseFault → Option ℕ → Status
+status_by (Ok v) stopped = unless_stopped stopped status.Ok
+status_by (Err fault.Write) stopped = unless_stopped stopped status.WriteFault
+status_by (Err fault.NoMemory) stopped = status.NoMemory
 
--- how many lines there are
-abbrev pub lines_of_lanes : List (List Line) → ℕ
-lines_of_lanes [] = 0
-lines_of_lanes (lines ∷ lanes) = length lines + lines_of_lanes lanes
+-- what stands on the disk and in the sink under each status of a store that was opened
+abbrev pub EndsBy : {D : Type 0} → (tells : Bool) (view : D → DiskView) (faults : D → ℕ) → Status → (slots : ℕ) (phases : List (List (List Line))) (held written : Option (List ℕ)) (before after : ℕ) (first now : D) → Type 0
+EndsBy tells view faults status.Ok slots phases held written before after first now = EndsWell tells view faults slots phases held written first now × (after ≡ before)
+EndsBy tells view faults (status.DeviceFault shard) slots phases held written before after first now =
+    (shard ≡ 0) × disk.Rose (faults first) (faults now) × EndsStopped tells view faults slots phases held written before after first now
+EndsBy tells view faults status.WriteFault slots phases held written before after first now = EndsUnwritten tells view faults slots phases held written first now × Rose before after
+EndsBy tells view faults status.NoMemory slots phases held written before after first now = EndsInPart tells view faults slots phases held written first now × (after ≡ before)
+EndsBy tells view faults _ slots phases held written before after first now = ⊥
 
-abbrev pub lines_of_phases : List (List (List Line)) → ℕ
-lines_of_phases [] = 0
-lines_of_phases (lanes ∷ phases) = lines_of_lanes lanes + lines_of_phases phases
+-- the status of a shard that was not opened
+abbrev pub unopened_status : ℕ → OpenFault → Status
+unopened_status shard (refused.Image fault) = status.NotOpened shard fault
+unopened_status shard refused.Disk = status.DeviceFault shard
+unopened_status shard refused.NoMemory = status.NoMemory

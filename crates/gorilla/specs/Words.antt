@@ -1,5 +1,5 @@
 -- The words of the command line.
-use Rattle.std.specs.Prelude.{ℕ, ◌+◌, nat_eq, nat_le, List, [], ◌∷◌, map, take, drop, position, codes, ◌&&◌, Option, Some, None, option_map, String, string_bytes, if◌then◌else◌}
+use Rattle.std.specs.Prelude.{ℕ, ◌+◌, nat_eq, nat_le, Bool, true, false, List, [], ◌∷◌, map, take, drop, position, codes, ◌&&◌, Option, Some, None, option_map, String, string_bytes, if◌then◌else◌}
 use Rattle.std.specs.Str.{bytes_eq}
 use Rattle.gor_text.specs.Grammar.{number_of}
 use Rattle.gorilla.specs.declared.words.Given.{Given}
@@ -88,3 +88,27 @@ slots_of_options (word ∷ rest) = slots_from (first_option (word ∷ rest))
 abbrev pub slots_of_run : List (List ℕ) → Option ℕ
 slots_of_run [] = None
 slots_of_run (word ∷ rest) = if bytes_eq word (codes "run") then slots_of_options rest else None
+
+-- ---- a dump: `dump` or `dump --shards 1`
+
+abbrev pub is_one_shard : Given → Bool
+is_one_shard (Shards n) = nat_eq n 1
+is_one_shard (Slots n) = false
+
+abbrev pub is_last : List (List ℕ) → Bool
+is_last [] = true
+is_last (word ∷ rest) = false
+
+-- it gives one shard, and no word is behind it
+abbrev pub gives_one_shard : Option Found → Bool
+gives_one_shard None = false
+gives_one_shard (Some option) = is_one_shard option.given && is_last option.rest
+
+abbrev pub are_dump_options : List (List ℕ) → Bool
+are_dump_options [] = true
+are_dump_options (word ∷ rest) = gives_one_shard (first_option (word ∷ rest))
+
+-- whether the words are those of a dump
+abbrev pub asks_dump : List (List ℕ) → Bool
+asks_dump [] = false
+asks_dump (word ∷ rest) = bytes_eq word (codes "dump") && are_dump_options rest

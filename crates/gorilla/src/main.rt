@@ -1,19 +1,37 @@
-//! An in-memory store of time series: it reads a workload from standard input, runs it on a shard in memory, and writes the
-//! answers.
+//! A store of time series: it reads a workload from standard input, runs it on a shard that lies in a folder, and writes the
+//! answers; or it writes what the files of a shard hold.
 #![tactic(auto)]
 
-mod answers;
+pub mod dump;
+mod dump_text;
+mod file_name;
+mod folder_disk;
 mod input;
+pub mod outcome;
 mod output;
-mod point_lines;
 pub mod program;
-mod shard;
+mod reading;
+pub mod serving;
 pub mod status;
 mod streams;
+mod taken_lines;
 #[cfg(test)]
 mod tests;
+#[cfg(test)]
+mod tests_dump;
+#[cfg(test)]
+mod tests_folder;
+#[cfg(test)]
+mod tests_lanes;
+#[cfg(test)]
+mod tests_runs;
+#[cfg(test)]
+mod tests_stops;
 mod words;
 
+use dump::dump;
+use folder_disk::store_disks;
+use gor_outside::NoPause;
 use program::run;
 use status::Status;
 use std::env;
@@ -37,19 +55,35 @@ fn words_given(rt: &HostRuntime) -> Result<Vec<String>, Status> {
     Ok(words)
 }
 
-/// Runs the words on standard input and standard output.
-fn run_on_streams(rt: &HostRuntime) -> Status {
-    let words = match words_given(rt) {
-        Ok(words) => words,
-        Err(status) => return status,
+/// Dumps the store in the folder `store` to standard output.
+fn dump_store(rt: &HostRuntime, words: &[String]) -> Status {
+    let Ok(disks) = store_disks(rt, "store") else {
+        return Status::NoMemory;
     };
-    let mut source = InputStream::new(rt.reader());
     let mut sink = OutputStream::new(io::writer(rt));
-    run(rt, &words, &mut source, &mut sink)
+    dump(rt, words, &mut sink, disks).status
 }
 
+/// Whether the words are to be read as those of a dump.
+fn is_dump(words: &[String]) -> bool {
+    words.first().is_some_and(|word| word.as_str() == "dump")
+}
+
+/// It does what the program was called for: a dump where the first word is `dump`, and else a run, on the store in the folder
+/// `store`, standard input and standard output.
 fn main(rt: HostRuntime) -> ExitCode {
-    let status = run_on_streams(&rt);
+    let status = match words_given(&rt) {
+        Ok(words) if is_dump(&words) => dump_store(&rt, &words),
+        Ok(words) => match store_disks(&rt, "store") {
+            Ok(disks) => {
+                let mut source = InputStream::new(rt.reader());
+                let mut sink = OutputStream::new(io::writer(&rt));
+                run(&rt, &words, &mut source, &mut sink, disks, &NoPause).status
+            }
+            Err(_) => Status::NoMemory,
+        },
+        Err(status) => status,
+    };
     if status != Status::Ok {
         let _ = eprintln!(rt; "{status}");
     }

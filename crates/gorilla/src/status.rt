@@ -1,12 +1,14 @@
 ghost use Rattle.std.specs.Prelude.{◌≡◌};
 ghost use Rattle.gorilla.specs.Statuses.{number_of};
 
+use crate::file_name::FileName;
+use gor_image::{DamageKind, ImageFault};
 use std::fmt;
 
-/// How a run ended.
+/// How a run or a dump ended.
 #[derive(Clone, Copy, Debug, PartialEq, Eq)]
 pub enum Status {
-    /// The input was read to its end and all answers were written.
+    /// The input was read to its end and all text was written.
     Ok,
     /// The words are not those of a command.
     Words,
@@ -16,6 +18,10 @@ pub enum Status {
     TooLong,
     /// A line is no workload line; the first such line, from 1.
     BadLine { line: u64 },
+    /// What the disk of this shard holds is refused.
+    NotOpened { shard: u32, fault: ImageFault },
+    /// The disk of this shard failed.
+    DeviceFault { shard: u32 },
     /// A write of the output failed.
     WriteFault,
     /// There was no memory.
@@ -34,7 +40,56 @@ impl Status {
             Status::NoMemory => 4,
             Status::ReadFault => 5,
             Status::WriteFault => 6,
+            Status::DeviceFault { .. } => 7,
+            Status::NotOpened { .. } => 8,
             Status::TooLong => 9,
+        }
+    }
+}
+
+/// A kind of damage in lower-case letters.
+fn word_of(kind: DamageKind) -> &'static str {
+    match kind {
+        DamageKind::Cut => "cut",
+        DamageKind::Version => "version",
+        DamageKind::Kind => "kind",
+        DamageKind::Short => "short",
+        DamageKind::Extra => "extra",
+        DamageKind::Value => "value",
+        DamageKind::Order => "order",
+        DamageKind::Slot => "slot",
+        DamageKind::Name => "name",
+        DamageKind::Row => "row",
+        DamageKind::Block => "block",
+        DamageKind::Padding => "padding",
+    }
+}
+
+/// Why a shard is refused, as it is printed behind the shard.
+#[derive(Clone, Copy)]
+struct Refusal(ImageFault);
+
+impl fmt::Display for Refusal {
+    fn fmt<W: fmt::Write>(&self, f: &mut fmt::Formatter<W>) -> fmt::Result {
+        match self.0 {
+            ImageFault::Damage { file, at, kind } => {
+                let (name, word) = (FileName(file), word_of(kind));
+                write!(f, "damage in {name} at {at}: {word}")
+            }
+            ImageFault::Home {
+                found_shards,
+                found_shard,
+                asked_shards,
+                asked_shard,
+            } => write!(
+                f,
+                "home is {found_shard} of {found_shards}, asked {asked_shard} of {asked_shards}"
+            ),
+            ImageFault::Slots { needed, given } => write!(
+                f,
+                "slots needed {needed}, given {given}"
+            ),
+            ImageFault::Worn { next } => write!(f, "change numbers end, next {next}"),
         }
     }
 }
@@ -51,6 +106,14 @@ impl fmt::Display for Status {
             Status::BadLine { line } => {
                 let line = *line;
                 write!(f, "gorilla: line {line} is not a workload line")
+            }
+            Status::NotOpened { shard, fault } => {
+                let (shard, refusal) = (*shard, Refusal(*fault));
+                write!(f, "gorilla: shard {shard}: {refusal}")
+            }
+            Status::DeviceFault { shard } => {
+                let shard = *shard;
+                write!(f, "gorilla: shard {shard}: the device failed")
             }
             Status::NoMemory => write!(f, "gorilla: no memory"),
             Status::ReadFault => write!(f, "gorilla: the input could not be read"),

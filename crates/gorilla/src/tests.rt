@@ -1,10 +1,17 @@
+ghost use Rattle.std.specs.Prelude.{◌≡◌, length, IfOk};
+ghost use Rattle.std.specs.List.{AllByRecursion};
+ghost use Rattle.gor_disk.specs.Disk.{NothingPending};
+
 use crate::program::run;
 use crate::status::Status;
-use gor_outside::{MemorySink, MemorySource};
+use gor_disk::{Disk, MemoryDisk};
+use gor_outside::{MemorySink, MemorySource, NoPause};
 use std::alloc::{AllocError, Global};
+use std::sync::Wait;
+use std::thread::Threads;
 
 /// The words of a command line.
-fn words_of(alloc: Global, text: &str) -> Result<Vec<String>, AllocError> {
+pub fn words_of(alloc: Global, text: &str) -> Result<Vec<String>, AllocError> {
     let mut words = Vec::new(alloc);
     for word in text.split(' ') {
         words.push(String::from_str(alloc, word)?)?;
@@ -13,7 +20,7 @@ fn words_of(alloc: Global, text: &str) -> Result<Vec<String>, AllocError> {
 }
 
 /// A list of one number, or of none.
-fn at(alloc: Global, place: Option<u64>) -> Result<Vec<u64>, AllocError> {
+pub fn at(alloc: Global, place: Option<u64>) -> Result<Vec<u64>, AllocError> {
     let mut places = Vec::new(alloc);
     if let Some(place) = place {
         places.push(place)?;
@@ -37,9 +44,35 @@ fn many_puts(alloc: Global, lines: u32) -> Result<Vec<u8>, AllocError> {
     Ok(text)
 }
 
-/// How a run ends, and what its sink then holds.
-fn ran(
-    rt: &HostRuntime,
+/// Sixteen disks: this one, and others that hold nothing.
+pub fn disks_with(alloc: Global, first: MemoryDisk) -> Result<Vec<MemoryDisk>, AllocError>
+    requires { NothingPending (⟦<MemoryDisk as Disk>⟧.view first) }
+    ensures sixteen { IfOk result (λ disks. length disks.items ≡ 16) }
+    ensures pending { IfOk result (λ disks. AllByRecursion (λ d. NothingPending (⟦<MemoryDisk as Disk>⟧.view d)) disks.items) }
+{
+    Ok(vec![in alloc;
+        first,
+        MemoryDisk::new(alloc),
+        MemoryDisk::new(alloc),
+        MemoryDisk::new(alloc),
+        MemoryDisk::new(alloc),
+        MemoryDisk::new(alloc),
+        MemoryDisk::new(alloc),
+        MemoryDisk::new(alloc),
+        MemoryDisk::new(alloc),
+        MemoryDisk::new(alloc),
+        MemoryDisk::new(alloc),
+        MemoryDisk::new(alloc),
+        MemoryDisk::new(alloc),
+        MemoryDisk::new(alloc),
+        MemoryDisk::new(alloc),
+        MemoryDisk::new(alloc),
+    ]?)
+}
+
+/// How a run on empty disks ends, and what its sink then holds.
+fn ran<R: AllocGlobal + Threads + Wait + Sync>(
+    rt: &R,
     words: &str,
     input: Vec<u8>,
     read_fails: Option<u64>,
@@ -49,8 +82,9 @@ fn ran(
     let words = words_of(alloc, words)?;
     let mut source = MemorySource::new(input, 1000, at(alloc, read_fails)?);
     let mut sink = MemorySink::new(alloc, 3, at(alloc, write_fails)?);
-    let status = run(rt, &words, &mut source, &mut sink);
-    Ok((status, sink.bytes().to_vec(alloc)?))
+    let disks = disks_with(alloc, MemoryDisk::new(alloc))?;
+    let outcome = run(rt, &words, &mut source, &mut sink, disks, &NoPause);
+    Ok((outcome.status, sink.bytes().to_vec(alloc)?))
 }
 
 const ROW: &[u8] = b"0 put a 1427162462 4028000000000000\n0 get a 0 4294965599\n";
@@ -80,8 +114,8 @@ fn workloads_are_answered(rt: HostRuntime) -> Result<(), AllocError> {
 }
 
 /// The first of some workloads, from 0, that is not answered so under some words.
-fn first_other(
-    rt: &HostRuntime,
+fn first_other<R: AllocGlobal + Threads + Wait + Sync>(
+    rt: &R,
     words: &str,
     rows: &[(&[u8], &[u8])],
 ) -> Result<Option<usize>, AllocError> {
@@ -114,12 +148,12 @@ fn names_are_answered(rt: HostRuntime) -> Result<(), AllocError> {
         ),
         // Two lanes on one name.
         (
-            b"0 put a 10 0000000000000001\n1 put a 20 0000000000000002\n0 put a 30 0000000000000003\n1 put a 40 0000000000000004\n",
-            b"0 0:0 stored\n0 0:1 stored\n1 0:2 late 30\n1 0:3 stored\n",
+            b"0 put a 10 0000000000000001\njoin\n1 put a 20 0000000000000002\njoin\n0 put a 15 0000000000000003\njoin\n1 put a 40 0000000000000004\n",
+            b"0 0:0 stored\n1 0:1 stored\n0 0:2 late 20\n1 0:3 stored\n",
         ),
         // Eight lanes and joins, one of them at the end: numbers go on, and refused calls have none.
         (
-            b"7 get a 0 1\n3 put a 1 0000000000000001\njoin\njoin\n5 put a 4294965600 0000000000000001\n0 get a 3 2\n2 get a 0 9\njoin\n",
+            b"3 put a 1 0000000000000001\njoin\n7 get a 0 1\njoin\njoin\n5 put a 4294965600 0000000000000001\n0 get a 3 2\n2 get a 0 9\njoin\n",
             b"3 0:0 stored\n7 0:1 points 1 1:0000000000000001\n0 - range\n2 0:2 points 1 1:0000000000000001\n5 - time\n",
         ),
         // The first reason that holds: the name, then the time or the range.
@@ -171,7 +205,6 @@ fn bad_lines_are_named_and_nothing_is_written(rt: HostRuntime) -> Result<(), All
         (b"0 del\n", 1),
         (b"0 del a b\n", 1),
         (b"0 put a 1 000000000000000G\n", 1),
-        (b"0 flush 0\n", 1),
         (b"0 del a\n\n0 finish 0 0\n", 3),
         (b"0 merge 0 1 a\n", 1),
     ];
@@ -291,6 +324,6 @@ fn the_limit_is_exact(rt: HostRuntime) -> Result<(), AllocError> {
 fn many_lines_are_answered(rt: HostRuntime) -> Result<(), AllocError> {
     let (status, held) = ran(&rt, "run", many_puts(rt.alloc(), 100_000)?, None, None)?;
     assert_eq!(rt; status, Status::Ok);
-    assert!(rt; held.ends_with(b"0 0:99999 stored\n"));
+    assert!(rt; held.ends_with(b"0 0:100063 stored\n"));
     Ok(())
 }

@@ -1,5 +1,5 @@
 ghost use Rattle.std.specs.Prelude.{◌≡◌, option_map};
-ghost use Rattle.gorilla.specs.Words.{words_of, equals_in, before_rest, with_next, parted, named, first_option, found, slots_for, slots_of_one, slots_of_two, slots_of_last, slots_behind, slots_from, slots_of_options, slots_of_run};
+ghost use Rattle.gorilla.specs.Words.{words_of, equals_in, before_rest, with_next, parted, named, first_option, found, slots_for, slots_of_one, slots_of_two, slots_of_last, slots_behind, slots_from, slots_of_options, slots_of_run, gives_one_shard, are_dump_options, asks_dump};
 
 use gor_text::read_number;
 
@@ -164,5 +164,41 @@ pub fn slots_of_run(words: &[String]) -> Option<u64>
             slots_of_options(rest)
         }
         _ => None,
+    }
+}
+
+/// Whether an option, if there is one, gives one shard and is the last word.
+fn gives_one_shard(option: Option<Spelled<'_>>) -> bool
+    ensures { result ≡ gives_one_shard (option_map (λ option. found (words_of option.rest.now) option.given) option.entry) }
+{
+    match option {
+        Some(
+            Spelled {
+                given: Given::Shards(shards),
+                rest: [],
+            },
+        ) => shards == 1,
+        _ => false,
+    }
+}
+
+fn are_dump_options(words: &[String]) -> bool
+    ensures { result ≡ are_dump_options (words_of words.now) }
+{
+    match words {
+        [] => true,
+        [_, ..] => gives_one_shard(first_option(words)),
+    }
+}
+
+/// Whether the words are those of a dump of one shard.
+pub fn asks_dump(words: &[String]) -> bool
+    ensures { result ≡ asks_dump (words_of words.now) }
+{
+    match words {
+        [first, rest @ ..] => {
+            first.as_str().as_bytes() == b"dump".as_slice() && are_dump_options(rest)
+        }
+        [] => false,
     }
 }

@@ -1,0 +1,177 @@
+-- How a run ends on an open store: what its disk and its sink hold, by its status.
+use Rattle.std.proofs.lemmas.Bool.{eqb-true}
+use Rattle.std.proofs.lemmas.List.{append-nil}
+use Rattle.std.proofs.Common.{◌≡◌, ◌⊎◌, inl, inr, ℕ, ◌+◌, ◌<◌, ◌≤◌, List, [], ◌∷◌, ◌++◌, length, Option, Some, None, Result, Ok, Err, Bool, true, false, cond, refl, sym, ap, subst, ◌∙◌, arith}
+use Rattle.std.specs.Prelude.{nat_eq, sum_by}
+use Rattle.std.specs.List.{AllByRecursion}
+use Rattle.gor_disk.specs.Disk.{DiskView}
+use Rattle.gor_disk.specs.Disk as disk
+use Rattle.gor_finish.specs.Made.{Numbered}
+use Rattle.gor_hall.specs.declared.pass.Pass.{Pass}
+use Rattle.gor_hall.specs.Halls.{start_of}
+use Rattle.gor_hall.specs.Passes.{made}
+use Rattle.gor_flush.specs.Starts.{opened_start}
+use Rattle.gor_image.specs.declared.recovered.Recovered.{Recovered}
+use Rattle.gor_model.specs.declared.start.Start.{Start}
+use Rattle.gor_text.specs.declared.workload.Line.{Line}
+use Rattle.gor_text.proofs.Interleavings.{all-map}
+use Rattle.gor_store.specs.Closings.{ClosesBy, only_last}
+use Rattle.gor_store.specs.Lanes.{AreTaken}
+use Rattle.gor_store.specs.Sessions.{HaveServed, SessionStands, SessionIsWhole}
+use Rattle.gor_store.specs.Shards.{BeginsFrom, HasClosed}
+use Rattle.gor_store.specs.Stores.{IsSameStore, ComeBack, HasFlushed, others_of, passes_of, events_of}
+use Rattle.gor_store.specs.Stories.{AllFrom, LaneRun, count_all}
+use Rattle.gor_store.specs.Works.{HaveAdded, nothing}
+use Rattle.gor_store.specs.declared.store.Store.{Store}
+use Rattle.gor_store.proofs.StoryLists.{all_front}
+use Rattle.gor_store.proofs.Works.{last_is_done, work_is_counted}
+use Rattle.gorilla.specs.Dumps.{CallsFirst}
+use Rattle.gorilla.specs.Outputs.{AppendsPart}
+use Rattle.gorilla.specs.Runs.{HeldSession, HeldWhole}
+use Rattle.gorilla.specs.Serving.{EndsBy, HasEnded, HasWritten, WroteAll, WroteInPart, WroteUntil, status_by}
+use Rattle.gorilla.specs.TakenLines.{AreTakenPhases, IsTakenPhase}
+use Rattle.gorilla.specs.declared.serving.PhaseFault.{PhaseFault}
+use Rattle.gorilla.specs.declared.status.Status.{Status}
+use Rattle.gorilla.specs.declared.serving.PhaseFault.TheVariants as fault
+
+-- ---- the last events
+
+only_from : (least most : ℕ) (events : List Numbered) (k : ℕ) → least ≤ most → AllFrom most events → AllFrom least (only_last events k)
+only_from least most events k low all = at (nat_eq k 8) where
+  at : (b : Bool) → AllFrom least (cond b events [])
+  at true = all-map (λ (e : Numbered). most ≤ e.0) (λ (e : Numbered). least ≤ e.0) (λ e up. omega (arith, up, low)) events all
+  at false = tt
+
+only_none : (events : List Numbered) (k : ℕ) → 8 < k → only_last events k ≡ []
+only_none events k above = at (nat_eq k 8) refl where
+  at : (b : Bool) → nat_eq k 8 ≡ b → cond b events [] ≡ []
+  at true is = absurd (let same : k ≡ 8 = eqb-true k 8 is in omega (arith, same, above))
+  at false is = refl
+
+-- what was served stands when lane 8 flushed
+pub served_last : (olds news : List Pass) (phases : List (List (List Line))) (last : ℕ → List Numbered) (text : List ℕ) (events : List Numbered) → (h : HaveServed olds phases last text)
+    → count_all h.runs ≤ sum_by (λ p. length (made p)) olds → HaveAdded olds news (only_last events) → AllFrom (sum_by (λ p. length (made p)) olds) events
+    → HaveServed news phases (λ k. last k ++ only_last events k) text
+served_last olds news phases last text events h low added from = record {
+  runs = h.runs;
+  work = last_is_done 0 olds news h.runs last (only_last events) h.work (λ k. only_from (count_all h.runs) (sum_by (λ (p : Pass). length (made p)) olds) events k low from) (λ k above. only_none events k above) added;
+  lines = h.lines;
+  answered = h.answered;
+  tells = h.tells;
+}
+
+-- where nothing was made behind the phases before it
+served_whole : (olds news : List Pass) (phases : List (List (List Line))) (text : List ℕ) (events : List Numbered) → HaveServed olds phases nothing text
+    → HaveAdded olds news (only_last events) → AllFrom (sum_by (λ p. length (made p)) olds) events → HaveServed news phases (only_last events) text
+served_whole olds news phases text events h added from =
+    served_last olds news phases nothing text events h (let count = work_is_counted 0 olds h.runs h.work in omega (arith, count)) added from
+
+-- ---- the end of a store
+
+pub has_ended : {D : Type 0} (tells : Bool) (view : D → DiskView) (faults : D → ℕ) (old new : Store D) (stopped : Option ℕ) (disks : List D)
+    → IsSameStore old new → HasFlushed old new stopped → ComeBack tells view faults new disks → HasEnded tells view faults old stopped disks
+has_ended tells view faults old new stopped disks same flushed back = record {
+  disk = back.disk;
+  are = back.are ∙ ap (λ (others : List _). back.disk ∷ others) same.rest;
+  passes = passes_of new;
+  events = flushed.events;
+  closes = flushed.closes;
+  added = flushed.added;
+  from = flushed.from;
+  closed = subst (λ (start : Start). HasClosed tells view faults start 9 (passes_of new) back.disk) (ap start_of same.hall) back.closed;
+}
+
+-- ---- the home and the moment of a start
+
+shards_of : (slots : ℕ) (r : Recovered) (shards shard since faults : ℕ) → (opened_start slots r shards shard since faults).shards ≡ shards
+unfolding opened_start
+shards_of slots r shards shard since faults = refl
+
+shard_of : (slots : ℕ) (r : Recovered) (shards shard since faults : ℕ) → (opened_start slots r shards shard since faults).shard ≡ shard
+unfolding opened_start
+shard_of slots r shards shard since faults = refl
+
+since_of : (slots : ℕ) (r : Recovered) (shards shard since faults : ℕ) → (opened_start slots r shards shard since faults).since ≡ since
+unfolding opened_start
+since_of slots r shards shard since faults = refl
+
+taken_lines : (phases : List (List (List Line))) → AreTakenPhases phases → AllByRecursion (AllByRecursion AreTaken) phases
+taken_lines phases taken = all-map IsTakenPhase (AllByRecursion AreTaken) (λ lanes t. t.taken) phases taken
+
+front_taken : (run rest phases : List (List (List Line))) → phases ≡ run ++ rest → AreTakenPhases phases → AllByRecursion (AllByRecursion AreTaken) run
+front_taken run rest phases parts taken = taken_lines run (all_front IsTakenPhase run rest (subst AreTakenPhases parts taken))
+
+-- ---- what stands
+
+module _ {D : Type 0} (tells : Bool) (view : D → DiskView) (faults : D → ℕ) (stands : SessionStands tells view faults) (is_whole : SessionIsWhole tells view faults)
+    (store : Store D) (first : D) (slots : ℕ) (begins : BeginsFrom 1 0 slots tells (view first) (faults first) (start_of store.hall)) where
+  held_whole : (phases : List (List (List Line))) (text : List ℕ) (stopped : Option ℕ) (disks : List D) → AllByRecursion (AllByRecursion AreTaken) phases → (e : HasEnded tells view faults store stopped disks)
+      → HaveServed (passes_of store) phases nothing text → HeldWhole tells view faults slots first e.disk phases text stopped
+  held_whole phases text stopped disks taken e served =
+      let start = start_of store.hall in
+      let all = served_whole (passes_of store) e.passes phases text e.events served e.added e.from in
+      let session = stands slots first e.disk start e.passes phases (only_last e.events) text begins taken all e.closed in
+      let shards = ap (λ (s : Start). s.shards) begins.same ∙ shards_of slots begins.recovered 1 0 (view first).moment (faults first) in
+      let shard = ap (λ (s : Start). s.shard) begins.same ∙ shard_of slots begins.recovered 1 0 (view first).moment (faults first) in
+      let since = ap (λ (s : Start). s.since) begins.same ∙ since_of slots begins.recovered 1 0 (view first).moment (faults first) in
+      let whole = is_whole 1 0 (view first).moment e.disk start e.passes phases text stopped e.events (sym shards) (sym shard) (sym since) taken all e.closes e.closed in
+      record { start = start; history = e.closed.history; session = session.0; told = whole.0; ends = whole.1 }
+
+  held_session : (phases : List (List (List Line))) (text : List ℕ) (more : ℕ → List Numbered) (stopped : Option ℕ) (disks : List D) → AllByRecursion (AllByRecursion AreTaken) phases
+      → (e : HasEnded tells view faults store stopped disks) → (served : HaveServed (passes_of store) phases more text) → count_all served.runs ≤ sum_by (λ p. length (made p)) (passes_of store)
+      → HeldSession tells view faults slots first e.disk phases text
+  held_session phases text more stopped disks taken e served counted =
+      let start = start_of store.hall in
+      let all = served_last (passes_of store) e.passes phases more text e.events served counted e.added e.from in
+      let session = stands slots first e.disk start e.passes phases (λ k. more k ++ only_last e.events k) text begins taken all e.closed in
+      record { start = start; history = e.closed.history; session = session.0; told = session.1 }
+
+  rose_so : (phases : List (List (List Line))) (text : List ℕ) (now : D) → HeldWhole tells view faults slots first now phases text (Some 0) → disk.Rose (faults first) (faults now)
+  rose_so phases text now held = held.session.rose held.ends.stops
+
+  pub ends_by : {T : Type 0} (written : Result T PhaseFault) (stopped : Option ℕ) (phases : List (List (List Line))) (held grown : Option (List ℕ)) (before after : ℕ) (disks : List D)
+      → AreTakenPhases phases → HasWritten written (passes_of store) phases held grown before after → (e : HasEnded tells view faults store stopped disks)
+      → EndsBy tells view faults (status_by written stopped) slots phases held grown before after first e.disk
+  ends_by (Ok v) None phases held grown before after disks taken w e =
+      (record { text = w.0.text; whole = held_whole phases w.0.text None disks (taken_lines phases taken) e w.0.served; appended = w.0.appended }, w.1)
+  ends_by (Ok v) (Some shard) phases held grown before after disks taken w e =
+      let first_shard : shard ≡ 0 = e.closes.0 in
+      let whole = subst (λ (n : ℕ). HeldWhole tells view faults slots first e.disk phases w.0.text (Some n)) first_shard (held_whole phases w.0.text (Some shard) disks (taken_lines phases taken) e w.0.served) in (
+        first_shard,
+        rose_so phases w.0.text e.disk whole,
+        record { run = phases; rest = []; parts = sym (append-nil phases); text = w.0.text; whole = whole; appended = inl (refl, w.0.appended, w.1) },
+      )
+  ends_by (Err fault.Write) None phases held grown before after disks taken w e = (
+    record { run = w.0.run; rest = w.0.rest; parts = w.0.parts; text = w.0.text; whole = held_whole w.0.run w.0.text None disks (front_taken w.0.run w.0.rest phases w.0.parts taken) e w.0.served; appended = w.0.appended },
+    w.1,
+  )
+  ends_by (Err fault.Write) (Some shard) phases held grown before after disks taken w e =
+      let first_shard : shard ≡ 0 = e.closes.0 in
+      let whole = subst (λ (n : ℕ). HeldWhole tells view faults slots first e.disk w.0.run w.0.text (Some n)) first_shard
+      (held_whole w.0.run w.0.text (Some shard) disks (front_taken w.0.run w.0.rest phases w.0.parts taken) e w.0.served) in (
+        first_shard,
+        rose_so w.0.run w.0.text e.disk whole,
+        record { run = w.0.run; rest = w.0.rest; parts = w.0.parts; text = w.0.text; whole = whole; appended = inr (w.0.appended, w.1) },
+      )
+  ends_by (Err fault.NoMemory) stopped phases held grown before after disks taken w e = (
+    record {
+      run = w.0.run;
+      rest = w.0.rest;
+      parts = w.0.parts;
+      text = w.0.text;
+      part = held_session w.0.run w.0.text w.0.more stopped disks (front_taken w.0.run w.0.rest phases w.0.parts taken) e w.0.served w.0.counted;
+      appended = w.0.appended;
+    },
+    w.1,
+  )
+
+pub serve_ends : {D T : Type 0} (tells : Bool) (view : D → DiskView) (faults : D → ℕ) → SessionStands tells view faults → SessionIsWhole tells view faults
+    → (old new : Store D) (written : Result T PhaseFault) (stopped : Option ℕ) (phases : List (List (List Line))) (held grown : Option (List ℕ)) (before after : ℕ) (disks : List D) (first : D) (slots : ℕ)
+    → AreTakenPhases phases → IsSameStore old new → HasWritten written (passes_of new) phases held grown before after → HasEnded tells view faults new stopped disks
+    → BeginsFrom 1 0 slots tells (view first) (faults first) (start_of old.hall) → (s : Status) → s ≡ status_by written stopped
+    → CallsFirst (λ one now. EndsBy tells view faults s slots phases held grown before after one now) (first ∷ others_of old) disks
+serve_ends tells view faults stands is_whole old new written stopped phases held grown before after disks first slots taken same wrote e begins s is =
+    let begun = subst (λ (start : Start). BeginsFrom 1 0 slots tells (view first) (faults first) start) (ap start_of (sym same.hall)) begins in
+    let ends = ends_by tells view faults stands is_whole new first slots begun written stopped phases held grown before after disks taken wrote e in
+    subst (λ (backs : List _). CallsFirst (λ one now. EndsBy tells view faults s slots phases held grown before after one now) (first ∷ others_of old) backs) (sym e.are)
+    (subst (λ (t : Status). EndsBy tells view faults t slots phases held grown before after first e.disk) (sym is) ends, same.rest)
