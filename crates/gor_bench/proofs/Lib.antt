@@ -1,3 +1,4 @@
 pub mod BlockSteps
 pub mod Firsts
 pub mod Getting
+pub mod Pushing

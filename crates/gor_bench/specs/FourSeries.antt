@@ -17,6 +17,10 @@ four_series = record {
   floor = 0;
   next = 5;
   rows = (97 ∷ [], row_of 97 0) ∷ (98 ∷ [], row_of 98 1) ∷ (99 ∷ [], row_of 99 2) ∷ (100 ∷ [], row_of 100 3) ∷ [];
+  shards = 0;
+  shard = 0;
+  since = 0;
+  faults = 0;
 }
 
 -- seven values, which stand for the shares of the empty history

@@ -54,7 +54,7 @@ impl Spent {
 
 /// Puts the point of a step of a block's window.
 #[tactic(auto, using(crate::proofs::BlockSteps::may_follow))]
-fn push_point(block: &mut Block, window: u32, step: usize, word: u64) -> Result<(), AllocError>
+pub fn push_point(block: &mut Block, window: u32, step: usize, word: u64) -> Result<(), AllocError>
     requires before { IsBlockBefore block.old window step }
     requires inside { step < 120 }
     ensures { OnOk result (IsBlockBefore block.new window (step + 1)) }
@@ -125,13 +125,18 @@ pub fn sum_of(words: &[u64]) -> u64 {
     sum
 }
 
-/// How many bytes a block is written in.
+/// The bytes that a block is written in. A block with no points has none.
 #[tactic(auto, using(crate::proofs::BlockSteps::some_point))]
-fn length_of(block: &Block) -> Result<u64, Fault> {
+pub fn bytes_of(block: &Block) -> Result<Vec<u8>, Fault> {
     let Some(_) = block.last() else {
         return Err(Fault::Wrong);
     };
-    Ok(block.to_bytes()?.len() as u64)
+    Ok(block.to_bytes()?)
+}
+
+/// How many bytes a block is written in.
+fn length_of(block: &Block) -> Result<u64, Fault> {
+    Ok(bytes_of(block)?.len() as u64)
 }
 
 fn length_of_all(blocks: &[Block]) -> Result<u64, Fault> {

@@ -1,11 +1,11 @@
-use std::alloc::AllocError;
+use std::alloc::{AllocError, AllocFailed};
 use thiserror::Error;
 
 /// Why nothing was measured, or not all.
 #[derive(Debug, Drop, Clone, Copy, PartialEq, Eq, Error)]
 pub enum Fault {
     /// A word names no part.
-    #[error("usage: gor_bench [codes|blocks|cell|table]...")]
+    #[error("usage: gor_bench [codes|blocks|cell|table|recovery]...")]
     Words,
     /// There was no memory.
     #[error("no memory")]
@@ -36,6 +36,12 @@ impl Fault {
 
 impl From<AllocError> for Fault {
     fn from(_: AllocError) -> Fault {
+        Fault::Memory
+    }
+}
+
+impl<T: Drop> From<AllocFailed<T>> for Fault {
+    fn from(_: AllocFailed<T>) -> Fault {
         Fault::Memory
     }
 }

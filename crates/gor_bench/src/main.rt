@@ -5,10 +5,12 @@
 //! - `blocks`: blocks, pushed and decoded.
 //! - `cell`: a day of a cell, put, copied and decoded.
 //! - `table`: a hall's take, mark and give, on one thread and on several.
+//! - `recovery`: what a shard's files hold, read back.
 //! - `words`: the four series of words that parts measure.
 //! - `report`: a table of figures, as it is printed.
 //! - `fault`: why nothing was measured.
 //! - `first`: the values of a hall of four series.
+//! - `laying`: stores of many series on a disk in memory, laid down by the writers of their files.
 //!
 //! A figure is what one run took on one machine. Nothing is promised by it, and nothing is compared with it.
 #![tactic(auto)]
@@ -18,7 +20,9 @@ mod cell;
 mod codes;
 mod fault;
 mod first;
+mod laying;
 mod part;
+mod recovery;
 mod report;
 mod table;
 mod words;

@@ -1,6 +1,6 @@
 use crate::fault::Fault;
 use crate::report::Report;
-use crate::{blocks, cell, codes, table};
+use crate::{blocks, cell, codes, recovery, table};
 use std::alloc::Global;
 use std::sync::Wait;
 use std::thread::Threads;
@@ -17,6 +17,8 @@ pub enum Part {
     Cell,
     /// `table`: a hall's take, mark and give.
     Table,
+    /// `recovery`: what a shard's files hold, read back.
+    Recovery,
 }
 
 impl Part {
@@ -27,6 +29,7 @@ impl Part {
             "blocks" => Some(Part::Blocks),
             "cell" => Some(Part::Cell),
             "table" => Some(Part::Table),
+            "recovery" => Some(Part::Recovery),
             _ => None,
         }
     }
@@ -42,6 +45,7 @@ impl Part {
             Part::Blocks => blocks::measure(rt, alloc),
             Part::Cell => cell::measure(rt, alloc),
             Part::Table => table::measure(rt, alloc),
+            Part::Recovery => recovery::measure(rt, alloc),
         }
     }
 }
