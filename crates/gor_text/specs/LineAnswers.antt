@@ -78,17 +78,3 @@ pub data LineAnswers (shards : ℕ) : Line → List Act → Type 0 where
   merge_range : (from to : ℕ) (names : List (List ℕ)) → to < from → LineAnswers shards (Merge from to names) (Refused reason.Range ∷ [])
   merge : (from to : ℕ) (names : List (List ℕ)) (acts : List Act) (lists : List (List Point)) (points : List Merged) → from ≤ to
       → Gets shards from to names acts lists → IsMerged lists points → LineAnswers shards (Merge from to names) (acts ++ MergedPoints points ∷ [])
-
--- what a store of points alone answers: puts, gets and deletes, and nothing follows a put
-pub data PointAnswers (shards : ℕ) : Line → List Act → Type 0 where
-  put_name : (name : List ℕ) (time word : ℕ) → ¬ (IsName name) → PointAnswers shards (Put name time word) (Refused reason.Name ∷ [])
-  put_time : (name : List ℕ) (time word : ℕ) → IsName name → greatest_time < time → PointAnswers shards (Put name time word) (Refused reason.Time ∷ [])
-  put : (name : List ℕ) (time word number : ℕ) (answer : Reply) → IsName name → time ≤ greatest_time
-      → PointAnswers shards (Put name time word) (Made (shard_of name shards) number (call.Put name (key_of name) time word) answer ∷ [])
-  get_name : (name : List ℕ) (from to : ℕ) → ¬ (IsName name) → PointAnswers shards (Get name from to) (Refused reason.Name ∷ [])
-  get_range : (name : List ℕ) (from to : ℕ) → IsName name → to < from → PointAnswers shards (Get name from to) (Refused reason.Range ∷ [])
-  get : (name : List ℕ) (from to number : ℕ) (answer : Reply) → IsName name → from ≤ to
-      → PointAnswers shards (Get name from to) (Made (shard_of name shards) number (call.Get (key_of name) from to) answer ∷ [])
-  del_name : (name : List ℕ) → ¬ (IsName name) → PointAnswers shards (Del name) (Refused reason.Name ∷ [])
-  del : (name : List ℕ) (number : ℕ) (answer : Reply) → IsName name
-      → PointAnswers shards (Del name) (Made (shard_of name shards) number (call.Del (key_of name)) answer ∷ [])
