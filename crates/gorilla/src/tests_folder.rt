@@ -1,13 +1,18 @@
-// A folder as a disk, and a dump of a store in folders.
+// A folder as a disk, and runs and dumps of a store in folders.
+ghost use Rattle.std.specs.Prelude.{◌≡◌, length};
+
 use crate::dump::dump;
 use crate::folder_disk::{FolderDisk, store_disks};
+use crate::program::run;
 use crate::status::Status;
 use crate::tests::words_of;
 use crate::tests_dump::{KEYS, LOG, MARKS, TEXT, write_store};
 use gor_disk::{Disk, DiskFailed, FileId};
-use gor_outside::MemorySink;
+use gor_outside::{MemorySink, MemorySource, NoPause};
 use std::fs;
+use std::sync::Wait;
 use std::test::Fail;
+use std::thread::Threads;
 
 /// A disk that another thread may be given.
 fn sendable<D: Disk + Send>(disk: D) -> D {
@@ -91,6 +96,67 @@ fn dumped(rt: &HostRuntime, store: &str) -> Result<(Status, Vec<u8>), Fail> {
         return Err("sixteen disks".into());
     }
     Ok((outcome.status, sink.bytes().to_vec(alloc)?))
+}
+
+/// How a run on the disks of a folder ends, and what it writes.
+fn ran<R: AllocGlobal + Threads + Wait + Sync>(
+    rt: &R,
+    disks: Vec<FolderDisk<HostRuntime>>,
+    input: &[u8],
+) -> Result<(Status, Vec<u8>), Fail>
+    requires { length disks.items ≡ 16 }
+{
+    let alloc = rt.alloc();
+    let words = words_of(alloc, "run --shards 1")?;
+    let mut source = MemorySource::new(input.to_vec(alloc)?, 1000, Vec::new(alloc));
+    let mut sink = MemorySink::new(alloc, 7, Vec::new(alloc));
+    let outcome = run(rt, &words, &mut source, &mut sink, disks, &NoPause);
+    if outcome.disks.len() != 16 {
+        return Err("sixteen disks".into());
+    }
+    Ok((outcome.status, sink.bytes().to_vec(alloc)?))
+}
+
+#[test]
+fn a_store_in_folders_is_restarted(rt: HostRuntime) -> Result<(), Fail> {
+    let store = "restart_of_a_test";
+    let _ = fs::remove_dir_all(&rt, store);
+    let first =
+        b"0 put a 10 0000000000000001\n0 put Web 20 0000000000000002\n0 flush 0\n0 put a 70 0000000000000003\n";
+    let (status, text) = ran(&rt, store_disks(&rt, store)?, first)?;
+    assert_eq!(rt; status, Status::Ok);
+    assert_eq!(rt;
+        text.as_slice(),
+        b"0 0:0 stored\n0 0:1 stored\n0 0:2 take 2\n0 0:3 done 2\n0 0:4 stored\n".as_slice()
+    );
+    assert!(rt; fs::exists(&rt, "restart_of_a_test/shard.0/marks")?);
+    assert!(rt; !fs::exists(&rt, "restart_of_a_test/shard.1")?);
+    // The last put was flushed as the run ended. A dump leaves all as it is.
+    for _ in 0..2 {
+        let (status, text) = dumped(&rt, store)?;
+        assert_eq!(rt; status, Status::Ok);
+        assert_eq!(rt;
+            text.as_slice(),
+            b"0 a floor 0 points 2 10:0000000000000001 70:0000000000000003\n0 Web floor 0 points 1 20:0000000000000002\n".as_slice()
+        );
+    }
+    // Another run finds it, and goes on: the last times, the names as they were first spelled, and the numbers from 0.
+    let second =
+        b"0 get A 0 99\n0 put web 19 0000000000000004\n0 put WEB 21 0000000000000005\n0 del a\n";
+    let (status, text) = ran(&rt, store_disks(&rt, store)?, second)?;
+    assert_eq!(rt; status, Status::Ok);
+    assert_eq!(rt;
+        text.as_slice(),
+        b"0 0:0 points 2 10:0000000000000001 70:0000000000000003\n0 0:1 late 20\n0 0:2 stored\n0 0:3 gone\n".as_slice()
+    );
+    let (status, text) = dumped(&rt, store)?;
+    assert_eq!(rt; status, Status::Ok);
+    assert_eq!(rt;
+        text.as_slice(),
+        b"0 Web floor 0 points 2 20:0000000000000002 21:0000000000000005\n".as_slice()
+    );
+    fs::remove_dir_all(&rt, store)?;
+    Ok(())
 }
 
 #[test]
