@@ -10,7 +10,9 @@ pub mod StoryNumbers
 pub mod StoryLanes
 pub mod Stories
 pub mod Works
+pub mod LastEvents
 pub mod WorkedStory
+pub mod LineCalls
 pub mod RunLaws
 pub mod LineLaws
 pub mod LaneLaws

@@ -1,5 +1,5 @@
 -- Each answer of a call is one that its line may have.
-use Rattle.std.proofs.Common.{None, ⊎_elim, ◌≡◌, ℕ, ◌+◌, ◌%◌, ◌≤◌, ◌<◌, List, [], ◌∷◌, ◌++◌, flat_map, Bool, true, false, refl, sym, ap, ◌∙◌, subst, arith}
+use Rattle.std.proofs.Common.{None, ⊎_elim, inr, ◌≡◌, ℕ, ◌+◌, ◌%◌, ◌≤◌, ◌<◌, List, [], ◌∷◌, ◌++◌, flat_map, Bool, true, false, refl, sym, ap, ◌∙◌, subst, arith}
 use Rattle.std.proofs.lemmas.List.{append-nil}
 use Rattle.std.proofs.lemmas.Grind.{flat_map-append}
 use Rattle.gor_model.specs.Names.{IsName, key_of, shard_of, fnv1a}
@@ -11,6 +11,7 @@ use Rattle.gor_model.specs.declared.event.Reply.TheVariants as reply
 use Rattle.gor_hall.specs.declared.hall.Hall.{Hall}
 use Rattle.gor_hall.specs.declared.pass.Pass.{Pass}
 use Rattle.gor_hall.specs.Passes.{lane_of}
+use Rattle.gor_finish.specs.Made.{Numbered}
 use Rattle.gor_finish.specs.Flushes.{IsFlush, take_made, take_refused, done_made, stop_made}
 use Rattle.gor_finish.specs.declared.reply.FlushReply.{FlushReply}
 use Rattle.gor_finish.specs.declared.reply.FlushReply.TheVariants as flushed
@@ -32,9 +33,12 @@ use Rattle.gor_text.specs.declared.answer.What.TheVariants as what_
 use Rattle.gor_text.specs.declared.workload.Line.{Line}
 use Rattle.gor_text.specs.declared.workload.Line.TheVariants as line_
 use Rattle.gor_text.specs.LineAnswers.{Act, Made, Refused, LineAnswers, Flushes, FollowsPut, EndsTake}
-use Rattle.gor_store.specs.Lines.{IsResting, RestsAgain, MadeSome, HasRun, Prints, IsTold, IsPutTold, IsFlushTold, ServesLine, FollowsDue, is_due, flush_told}
+use Rattle.gor_store.specs.Lines.{IsResting, RestsAgain, HasRun, Prints, IsTold, IsPutTold, IsFlushTold, ServesLine, FollowsDue, is_taken, is_due, flush_told}
+use Rattle.gor_store.specs.LineCalls.{IsFlushCall, Calls, AreBy, MadeBy, MadeSome}
 use Rattle.gor_store.specs.declared.lines.PutTold.{PutTold}
-use Rattle.gor_store.proofs.RunLaws.{no_run, none_run, one_run, flush_run, runs_on, some_on, prints_none, prints_one, prints_on}
+use Rattle.gor_store.proofs.LineCalls.{ActBy, line_acts, acts_by}
+use Rattle.gor_store.proofs.RunLaws.{no_run, none_run, one_run, flush_run, runs_on, none_made, some_on, some_wider, prints_none, prints_one, prints_on}
+use Rattle.gor_store.proofs.StoryLists.{all_front}
 
 -- there is one shard
 one_shard : (n : ℕ) → n % 1 ≡ 0
@@ -221,15 +225,28 @@ serves_due name time word old mid new put lane before between after is same t du
     )
 
 -- whatever is told of it, a flush made its events
-pub flush_some : (old new : Pass) (r : FlushReply) → IsFlush old r new → MadeSome old new
-flush_some old new (flushed.Flushed take taken done changes) f = ((done, done_made (lane_of old) f.0 changes) ∷ (take, take_made (lane_of old) taken) ∷ [], flush_run old new ((done, done_made (lane_of old) f.0 changes) ∷ (take, take_made (lane_of old) taken) ∷ []) f.1)
-flush_some old new (flushed.Stopped number) f = ((number, take_refused (lane_of old)) ∷ [], flush_run old new ((number, take_refused (lane_of old)) ∷ []) f)
-flush_some old new (flushed.Fault take taken stop) f = ((stop, stop_made (lane_of old)) ∷ (take, take_made (lane_of old) taken) ∷ [], flush_run old new ((stop, stop_made (lane_of old)) ∷ (take, take_made (lane_of old) taken) ∷ []) f)
+pub flush_some : (old new : Pass) (r : FlushReply) → IsFlush old r new → MadeBy IsFlushCall old new
+flush_some old new (flushed.Flushed take taken done changes) f =
+    let events : List Numbered = (done, done_made (lane_of old) f.0 changes) ∷ (take, take_made (lane_of old) taken) ∷ [] in
+    (events, flush_run old new events f.1, ((refl, tt), ((refl, tt), tt)))
+flush_some old new (flushed.Stopped number) f =
+    let events : List Numbered = (number, take_refused (lane_of old)) ∷ [] in
+    (events, flush_run old new events f, ((refl, tt), tt))
+flush_some old new (flushed.Fault take taken stop) f =
+    let events : List Numbered = (stop, stop_made (lane_of old)) ∷ (take, take_made (lane_of old) taken) ∷ [] in
+    (events, flush_run old new events f, ((refl, tt), ((refl, tt), tt)))
 
 -- whatever its fault, a get made its event or none
-pub get_some : {V : Type 0} (shard : Hall V) (old new : Pass) (key : List ℕ) (from to : ℕ) (f : GetFault) → IsResting shard old → GetRefused old key from to new f → MadeSome old new
-get_some shard old new key from to (get.Range first last) rests f = subst (λ (p : Pass). MadeSome old p) (sym f.3) ([], no_run shard old rests)
-get_some shard old new key from to get.NoMemory rests f = ⊎_elim (λ none. ([], none_run shard old new rests none)) (λ made. ((made.0, said (lane_of old) made.2.slot (call.Get key from to) (reply.Points made.1)) ∷ [], one_run old new made.0 (call.Get key from to) (reply.Points made.1) made.2)) f.1
+pub get_some : {V : Type 0} (shard : Hall V) (old new : Pass) (name spelt : List ℕ) (from to : ℕ) (f : GetFault) → IsResting shard old → spelt ≡ name → GetRefused old (key_of spelt) from to new f
+    → MadeSome (line_.Get name from to) old new
+get_some shard old new name spelt from to (get.Range first last) rests same f = subst (λ (p : Pass). MadeSome (line_.Get name from to) old p) (sym f.3) (none_made (Calls (line_.Get name from to)) old old (no_run shard old rests))
+get_some shard old new name spelt from to get.NoMemory rests same f = ⊎_elim (λ none. none_made (Calls (line_.Get name from to)) old new (none_run shard old new rests none))
+    (λ made. (
+      (made.0, said (lane_of old) made.2.slot (call.Get (key_of spelt) from to) (reply.Points made.1)) ∷ [],
+      one_run old new made.0 (call.Get (key_of spelt) from to) (reply.Points made.1) made.2,
+      ((refl, ap (λ (k : List ℕ). call.Get (key_of k) from to) same), tt),
+    ))
+    f.1
 
 -- ---- what is left after two calls
 
@@ -247,12 +264,26 @@ told_shard shard number p rests apart = told_refused (line_.Flush number) p p re
 pub serves_flush : (number : ℕ) (old new : Pass) (before after : List LaneAnswer) → number ≡ 0 → IsFlushTold old new before after → ServesLine (line_.Flush number) old new before after
 serves_flush number old new before after is f = (f.0, LineAnswers.flush number f.0 (subst (λ (z : ℕ). z < 1) (sym is) (omega arith)) (subst (λ (z : ℕ). Flushes z f.0) (sym is) f.1), f.2)
 
--- what was told made events
-pub told_some : (line : Line) (old new : Pass) (what : What) → IsTold line old new what → MadeSome old new
-told_some line old new what t = (t.events, t.run)
+-- what was told made events by calls of its line
+pub told_some : (line : Line) (old new : Pass) (what : What) → is_taken line ≡ true → IsTold line old new what → MadeSome line old new
+told_some line old new what taken t = (t.events, t.run, acts_by (Calls line) (lane_of old) t.acts t.events (line_acts line t.acts taken t.may) t.prints)
 
-pub put_some : (name : List ℕ) (time word : ℕ) (old new : Pass) (put : PutTold) → IsPutTold name time word old new put → MadeSome old new
-put_some name time word old new put t = (t.events, t.run)
+-- some acts that may follow a put
+follows_some : (due : Bool) → (rest : List Act) × FollowsDue due rest
+follows_some true = (Made 0 0 call.Take reply.Stopped ∷ [], Flushes.stopped 0)
+follows_some false = ([], refl)
 
-pub put_some_on : (name : List ℕ) (time word : ℕ) (old mid new : Pass) (put : PutTold) → lane_of mid ≡ lane_of old → IsPutTold name time word old mid put → MadeSome mid new → MadeSome old new
-put_some_on name time word old mid new put lane t more = some_on old mid new t.events lane t.run more
+put_by : (name : List ℕ) (time word : ℕ) (old new : Pass) (put : PutTold) (t : IsPutTold name time word old new put) → AreBy (lane_of old) (Calls (line_.Put name time word)) t.events
+put_by name time word old new put t =
+    let line = line_.Put name time word in
+    let f = follows_some put.due in
+    acts_by (Calls line) (lane_of old) t.acts t.events (all_front (ActBy (Calls line)) t.acts f.0 (line_acts line (t.acts ++ f.0) refl (t.may f.0 f.1))) t.prints
+
+pub put_some : (name : List ℕ) (time word : ℕ) (old new : Pass) (put : PutTold) → IsPutTold name time word old new put → MadeSome (line_.Put name time word) old new
+put_some name time word old new put t = (t.events, t.run, put_by name time word old new put t)
+
+pub put_some_on : (name : List ℕ) (time word : ℕ) (old mid new : Pass) (put : PutTold) → lane_of mid ≡ lane_of old → IsPutTold name time word old mid put → MadeBy IsFlushCall mid new
+    → MadeSome (line_.Put name time word) old new
+put_some_on name time word old mid new put lane t more =
+    let line = line_.Put name time word in
+    some_on (Calls line) old mid new t.events lane t.run (put_by name time word old mid put t) (some_wider IsFlushCall (Calls line) mid new (λ c is. inr is) more)

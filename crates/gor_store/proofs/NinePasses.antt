@@ -1,6 +1,6 @@
 -- The nine passes of a store: those of the lanes of a workload, and that of lane 8 at the end.
 use Rattle.std.proofs.Common.{◌≡◌, ◌⊎◌, inl, inr, ℕ, zero, suc, ◌+◌, ◌*◌, ◌^◌, ◌<◌, ◌≤◌, List, [], ◌∷◌, ◌++◌, length, refl, sym, ap, ◌∙◌, subst, arith, Some, slice_get, get_or, take, drop}
-use Rattle.std.specs.Prelude.{map, sum_by, if◌then◌else◌}
+use Rattle.std.specs.Prelude.{sum_by, if◌then◌else◌}
 use Rattle.std.specs.List.{AllByRecursion}
 use Rattle.std.proofs.lemmas.Bool.{ne_eqb}
 use Rattle.std.proofs.lemmas.List.{length-append, length-map, take-append-le, take_all}
@@ -13,7 +13,7 @@ use Rattle.gor_model.specs.Answers.{Legal}
 use Rattle.gor_hall.specs.declared.hall.Hall.{Hall}
 use Rattle.gor_hall.specs.declared.pass.Pass.{Pass}
 use Rattle.gor_hall.specs.Halls.{lanes_of, IsFirstPass}
-use Rattle.gor_hall.specs.Passes.{seen, made, held, lane_of, left_of_pass}
+use Rattle.gor_hall.specs.Passes.{seen, made, lane_of, left_of_pass}
 use Rattle.gor_finish.specs.Made.{Numbered}
 use Rattle.gor_text.specs.declared.answer.LaneAnswer.{LaneAnswer}
 use Rattle.gor_text.specs.declared.workload.Line.{Line}
@@ -197,11 +197,12 @@ ran_phase phase before olds news last told lanes r = record {
   tells = r.tells;
 }
 
-pub ran_in_part : (before : ℕ) (olds news : List Pass) (last : Pass) → length olds ≡ 8 → RanInPart before olds news → RanInPart before (olds ++ last ∷ []) (news ++ last ∷ [])
-ran_in_part before olds news last lanes r = record {
+pub ran_in_part : (phase : List (List Line)) (before : ℕ) (olds news : List Pass) (last : Pass) → length olds ≡ 8 → RanInPart phase before olds news → RanInPart phase before (olds ++ last ∷ []) (news ++ last ∷ [])
+ran_in_part phase before olds news last lanes r = record {
   more = r.more;
   added = added_by_lanes olds news last r.more r.added (r.eight (length olds) (omega (arith, lanes)));
   from = r.from;
+  of = r.of;
   eight = r.eight;
 }
 
@@ -268,9 +269,9 @@ phase_ran phase before count given now new final closing told eight counted same
     (ran_phase phase count (passes_of_lanes given) (passes_of_lanes new) closing told (eight_passes given eight)
     (subst (λ (n : ℕ). RanPhase phase n (passes_of_lanes given) (passes_of_lanes new) told) counted (subst (λ (ls : List Lane). RanPhase phase before (passes_of_lanes ls) (passes_of_lanes new) told) same ran)))
 
-pub part_ran : (before count : ℕ) (given now new final : List Lane) (closing : Pass) → length given ≡ 8 → before ≡ count → now ≡ given → final ≡ new
-    → RanInPart before (passes_of_lanes now) (passes_of_lanes new) → RanInPart count (passes_with given closing) (passes_with final closing)
-part_ran before count given now new final closing eight counted same is ran =
-    subst (λ (ls : List Lane). RanInPart count (passes_with given closing) (passes_with ls closing)) (sym is)
-    (ran_in_part count (passes_of_lanes given) (passes_of_lanes new) closing (eight_passes given eight)
-    (subst (λ (n : ℕ). RanInPart n (passes_of_lanes given) (passes_of_lanes new)) counted (subst (λ (ls : List Lane). RanInPart before (passes_of_lanes ls) (passes_of_lanes new)) same ran)))
+pub part_ran : (phase : List (List Line)) (before count : ℕ) (given now new final : List Lane) (closing : Pass) → length given ≡ 8 → before ≡ count → now ≡ given → final ≡ new
+    → RanInPart phase before (passes_of_lanes now) (passes_of_lanes new) → RanInPart phase count (passes_with given closing) (passes_with final closing)
+part_ran phase before count given now new final closing eight counted same is ran =
+    subst (λ (ls : List Lane). RanInPart phase count (passes_with given closing) (passes_with ls closing)) (sym is)
+    (ran_in_part phase count (passes_of_lanes given) (passes_of_lanes new) closing (eight_passes given eight)
+    (subst (λ (n : ℕ). RanInPart phase n (passes_of_lanes given) (passes_of_lanes new)) counted (subst (λ (ls : List Lane). RanInPart phase before (passes_of_lanes ls) (passes_of_lanes new)) same ran)))

@@ -22,24 +22,28 @@ use Rattle.gor_store.specs.declared.phases.Lane.{Lane}
 use Rattle.gor_store.specs.Stories.{LaneRun, IsRun, AreRuns, AllFrom, events_at}
 use Rattle.gor_store.specs.Works.{HasAdded}
 use Rattle.gor_store.specs.Lines.{HasRun, RestsAgain}
-use Rattle.gor_store.specs.Lanes.{RunsLane, MadeFrom}
+use Rattle.gor_store.specs.LineCalls.{IsCallOf, AreBy}
+use Rattle.gor_store.specs.Lanes.{AreTaken, RunsLane, MadeFrom}
 use Rattle.gor_store.specs.Phases.{lines_at, passes_of, answers_of, IsReady, AreReady, HasWorked, HaveTold, HaveRested, RanPhase, RanInPart}
+use Rattle.gor_store.proofs.LineCalls.{served_by}
 use Rattle.gor_store.proofs.StoryLists.{all_reverse}
 use Rattle.gor_store.proofs.Works.{added_newest_first}
 
 -- ---- one lane
 
-made_by_run : (lines : List Line) (before : ℕ) (old new : Pass) (told : List LaneAnswer) → RunsLane lines before old new told → MadeFrom before old new
-made_by_run lines before old new told r = record {
+made_by_run : (lines : List Line) (before : ℕ) (old new : Pass) (told : List LaneAnswer) → AreTaken lines → RunsLane lines before old new told → MadeFrom lines before old new
+made_by_run lines before old new told taken r = record {
   events = reverse r.run.events;
   run = r.made;
   from = all_reverse (λ (e : Numbered). before ≤ e.0) r.run.events r.from;
+  of = all_reverse (λ (e : Numbered). (e.1.lane ≡ lane_of old) × IsCallOf lines e.1.call) r.run.events
+      (served_by lines (lane_of old) r.run.served r.run.events taken r.are.0 r.are.1 (r.is_run.prints 0) r.is_run.own);
 }
 
-module _ {V : Type 0} (shard : Hall V) (lines : List Line) (before : ℕ) (old new : Lane) (rests : RestsAgain shard (3 * length lines) old.pass new.pass) where
+module _ {V : Type 0} (shard : Hall V) (lines : List Line) (before : ℕ) (old new : Lane) (taken : AreTaken lines) (rests : RestsAgain shard (3 * length lines) old.pass new.pass) where
   -- by what its run answered
-  pub worked : {X E : Type 0} (r : Result X E) → new.whole ≡ is_ok r → OnOk r (RunsLane lines before old.pass new.pass new.answers.items) → OnErr r (MadeFrom before old.pass new.pass) → HasWorked shard lines before old new
-  worked (Ok x) whole ran some = record { rests = rests; runs = λ is. ran; some = made_by_run lines before old.pass new.pass new.answers.items ran }
+  pub worked : {X E : Type 0} (r : Result X E) → new.whole ≡ is_ok r → OnOk r (RunsLane lines before old.pass new.pass new.answers.items) → OnErr r (MadeFrom lines before old.pass new.pass) → HasWorked shard lines before old new
+  worked (Ok x) whole ran some = record { rests = rests; runs = λ is. ran; some = made_by_run lines before old.pass new.pass new.answers.items taken ran }
   worked (Err e) whole ran some = record { rests = rests; runs = λ is. absurd (true≢false (sym is ∙ whole)); some = some }
 
 added_of : (old new : Pass) (events : List Numbered) → lane_of new ≡ lane_of old → HasRun old new (reverse events) → HasAdded old new events
@@ -124,38 +128,51 @@ ran_phase phase before olds news after told eight as_many passes is a = subst (�
 
 -- ---- lanes of which some found no memory
 
-record LanesMade (before : ℕ) (olds news : List Lane) : Type 0 where
+-- the lanes of these numbers, each with its lines, made their events
+record LanesMade (lane : ℕ → ℕ) (lines : ℕ → List Line) (before : ℕ) (olds news : List Lane) : Type 0 where
   pub events : List (List Numbered)
   pub count : length events ≡ length olds
   pub from : (i : ℕ) → AllFrom before (get_or events i [])
+  pub of : (i : ℕ) → AreBy (lane i) (IsCallOf (lines i)) (get_or events i [])
   pub added : (i : ℕ) → Adds (passes_of olds) (passes_of news) (λ k. get_or events k []) i
 
-lanes_made : (before : ℕ) (olds news : List Lane) → length news ≡ length olds
-    → ((i : ℕ) (d : Lane) → i < length olds → (lane_of (get_or news i d).pass ≡ lane_of (get_or olds i d).pass) × MadeFrom before (get_or olds i d).pass (get_or news i d).pass) → LanesMade before olds news
-lanes_made before [] [] as_many each = record { events = []; count = refl; from = λ i. tt; added = λ i p q e f. absurd (none_some p e) }
-lanes_made before [] (new ∷ news) as_many each = absurd (omega (arith, as_many))
-lanes_made before (old ∷ olds) [] as_many each = absurd (omega (arith, as_many))
-lanes_made before (old ∷ olds) (new ∷ news) as_many each =
-    let here = each zero old (omega arith) in
-    let m : MadeFrom before old.pass new.pass = here.1 in
-    let there = lanes_made before olds news (omega (arith, as_many)) (λ i d low. each (suc i) d (omega (arith, low))) in
+record LaneMade (lane : ℕ) (lines : List Line) (before : ℕ) (old new : Lane) : Type 0 where
+  pub own : lane_of old.pass ≡ lane
+  pub same : lane_of new.pass ≡ lane_of old.pass
+  pub made : MadeFrom lines before old.pass new.pass
+
+made_first : (lane : ℕ → ℕ) (lines : ℕ → List Line) (before : ℕ) (old new : Lane) (olds news : List Lane) → LaneMade (lane zero) (lines zero) before old new
+    → LanesMade (λ i. lane (suc i)) (λ i. lines (suc i)) before olds news → LanesMade lane lines before (old ∷ olds) (new ∷ news)
+made_first lane lines before old new olds news here there =
+    let m : MadeFrom (lines zero) before old.pass new.pass = here.made in
     let events = reverse m.events in record {
       events = events ∷ there.events;
       count = ap suc there.count;
       from = first_or (λ (i : ℕ). AllFrom before (get_or (events ∷ there.events) i [])) (all_reverse (λ (e : Numbered). before ≤ e.0) m.events m.from) there.from;
+      of = first_or (λ (i : ℕ). AreBy (lane i) (IsCallOf (lines i)) (get_or (events ∷ there.events) i []))
+          (subst (λ (l : ℕ). AreBy l (IsCallOf (lines zero)) events) here.own (all_reverse (λ (e : Numbered). (e.1.lane ≡ lane_of old.pass) × IsCallOf (lines zero) e.1.call) m.events m.of)) there.of;
       added = adds_first old.pass new.pass (passes_of olds) (passes_of news) (λ i. get_or (events ∷ there.events) i [])
-          (added_newest_first old.pass new.pass m.events here.0 m.run.begins m.run.made_is m.run.each) there.added;
+          (added_newest_first old.pass new.pass m.events here.same m.run.begins m.run.made_is m.run.each) there.added;
     }
 
-ran_in_part : (before : ℕ) (olds news : List Lane) (after : List Pass) → length olds ≡ 8 → length news ≡ length olds → passes_of news ≡ after
-    → ((i : ℕ) (d : Lane) → i < length olds → (lane_of (get_or news i d).pass ≡ lane_of (get_or olds i d).pass) × MadeFrom before (get_or olds i d).pass (get_or news i d).pass)
-    → RanInPart before (passes_of olds) after
-ran_in_part before olds news after eight as_many passes each =
-    let a = lanes_made before olds news as_many each in
-    subst (RanInPart before (passes_of olds)) passes (record {
+lanes_made : (lane : ℕ → ℕ) (lines : ℕ → List Line) (before : ℕ) (olds news : List Lane) → length news ≡ length olds
+    → ((i : ℕ) (d : Lane) → i < length olds → LaneMade (lane i) (lines i) before (get_or olds i d) (get_or news i d)) → LanesMade lane lines before olds news
+lanes_made lane lines before [] [] as_many each = record { events = []; count = refl; from = λ i. tt; of = λ i. tt; added = λ i p q e f. absurd (none_some p e) }
+lanes_made lane lines before [] (new ∷ news) as_many each = absurd (omega (arith, as_many))
+lanes_made lane lines before (old ∷ olds) [] as_many each = absurd (omega (arith, as_many))
+lanes_made lane lines before (old ∷ olds) (new ∷ news) as_many each =
+    made_first lane lines before old new olds news (each zero old (omega arith))
+    (lanes_made (λ i. lane (suc i)) (λ i. lines (suc i)) before olds news (omega (arith, as_many)) (λ i d low. each (suc i) d (omega (arith, low))))
+
+ran_in_part : (phase : List (List Line)) (before : ℕ) (olds news : List Lane) (after : List Pass) → length olds ≡ 8 → length news ≡ length olds → passes_of news ≡ after
+    → ((i : ℕ) (d : Lane) → i < length olds → LaneMade i (lines_at phase i) before (get_or olds i d) (get_or news i d)) → RanInPart phase before (passes_of olds) after
+ran_in_part phase before olds news after eight as_many passes each =
+    let a = lanes_made (λ i. i) (lines_at phase) before olds news as_many each in
+    subst (RanInPart phase before (passes_of olds)) passes (record {
       more = λ i. get_or a.events i [];
       added = record { as_many = length-map news (λ (l : Lane). l.pass) ∙ (as_many ∙ sym (length-map olds (λ (l : Lane). l.pass))); each = a.added };
       from = a.from;
+      of = a.of;
       eight = λ i past. get_or_past a.events i [] (let c = a.count in omega (arith, c, eight, past));
     })
 
@@ -209,5 +226,6 @@ module _ {V : Type 0} (shard : Hall V) (phase : Phase) (given : List (Vec Line G
           ran = w.runs (t.0 i d (omega (arith, low, as_many)));
         }))
 
-    pub phase_in_part : RanInPart before (passes_of olds) after
-    phase_in_part = ran_in_part before olds mids after eight as_many (sym passes) (λ i d low. let w = work i d low in (w.rests.lane, w.some))
+    pub phase_in_part : RanInPart (phase_lines phase) before (passes_of olds) after
+    phase_in_part = ran_in_part (phase_lines phase) before olds mids after eight as_many (sym passes)
+        (λ i d low. let w = work i d low in record { own = (ready i (get_or olds i d).pass (pass_at olds i d low)).0; same = w.rests.lane; made = w.some })

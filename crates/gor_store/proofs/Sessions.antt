@@ -32,6 +32,8 @@ use Rattle.gor_store.specs.Lines.{is_taken}
 use Rattle.gor_store.specs.Shards.{BeginsFrom, HasClosed}
 use Rattle.gor_store.specs.Stories.{served_in, HistoryBegins, IsOneHistory}
 use Rattle.gor_store.specs.Sessions.{dones_of, WasFitAt, HoldsSince, NeverFalls, KeepsItsWord, HoldsAllNow, SessionEnds, IsToldBy, HaveServed, SessionStands, SessionIsWhole}
+use Rattle.gor_store.specs.Works.{IsAmong}
+use Rattle.gor_store.proofs.LastEvents.{later_is_last}
 use Rattle.gor_store.proofs.StoryLists.{same_tails}
 use Rattle.gor_store.proofs.Works.{work_is_told, work_is_closed}
 
@@ -81,8 +83,11 @@ module _ (start : Start) (passes : List Pass) (phases : List (List (List Line)))
     whole = whole;
   }
 
-  told : IsWholeHistory start 9 passes h → IsToldBy start phases text h
-  told whole = let g : HistoryBegins 0 start h s.runs last = work_is_told 0 start passes h s.runs last s.work whole in told_by g.later g.printed g.whole g.text
+  -- so is the text, and behind it come the last events alone
+  told : IsWholeHistory start 9 passes h → (t : IsToldBy start phases text h) × (t.transcript.served ≡ served_in s.runs) × AllByRecursion (λ e. IsAmong (last e.lane) e) t.later
+  told whole =
+      let g : HistoryBegins 0 start h s.runs last = work_is_told 0 start passes h s.runs last s.work whole in
+      (told_by g.later g.printed g.whole g.text, refl, later_is_last 0 start passes h s.runs last s.work whole g)
 
 -- ---- the last flush
 
@@ -268,7 +273,8 @@ module _ {D : Type 0} (tells : Bool) (view : D → DiskView) (faults : D → ℕ
 
 pub session_stands : {D : Type 0} (tells : Bool) (view : D → DiskView) (faults : D → ℕ) → SessionStands tells view faults
 session_stands tells view faults slots old new start passes phases last text begins taken served closed =
-    let w = says_when 1 0 slots tells (view old) (faults old) start begins in (
+    let w = says_when 1 0 slots tells (view old) (faults old) start begins in
+    let t = told start passes phases last text closed.history taken served closed.whole in (
       record {
         begins = begins;
         legal = closed.whole.0;
@@ -277,7 +283,9 @@ session_stands tells view faults slots old new start passes phases last text beg
         later = came_later tells view faults start passes new closed 1 0 (view old).moment w.shards_are w.shard_is w.since_is;
         kept = kept_word tells view faults start passes new closed 1 0 (view old).moment w.shards_are w.shard_is w.since_is;
       },
-      told start passes phases last text closed.history taken served closed.whole,
+      t.0,
+      t.1,
+      t.2,
     )
 
 -- nothing of another lane is last
@@ -294,5 +302,6 @@ session_is_whole tells view faults shards shard since new start passes phases te
         closing = g.closes;
         adds = e.adds;
       },
+      refl,
       ended tells view faults start passes new closed shards shard since shards_are shard_is since_is stopped g.printed e,
     )

@@ -169,10 +169,10 @@ stand_by_lane P (runs ∷ phases) all = (
 module _ (shard : ℕ) (start : Start) (passes : List Pass) (h : History) (phases : List (List LaneRun)) (last : ℕ → List Numbered)
     (w : IsWork shard passes phases last) (whole : IsWholeHistory start 9 passes h) where
   -- the history has just the events of a lane, and each at its number
-  abbrev Holds : ℕ → Type 0
+  abbrev pub Holds : ℕ → Type 0
   Holds lane = (numbers lane h ≡ numbers_of (events_of_lane lane phases ++ last lane)) × AllByRecursion (StandsIn h) (events_of_lane lane phases ++ last lane)
 
-  holds : (lane : ℕ) → Holds lane
+  pub holds : (lane : ℕ) → Holds lane
   holds lane = at (slice_get_cases passes lane).1 where
     of_pass : (p : Pass) → slice_get passes lane ≡ Some p → Holds lane
     of_pass p at =

@@ -6,6 +6,7 @@ pub mod Stories
 pub mod Works
 pub mod WorkedStory
 pub mod Lines
+pub mod LineCalls
 pub mod Lanes
 pub mod Shards
 pub mod Phases

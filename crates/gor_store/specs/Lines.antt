@@ -107,10 +107,6 @@ IsFlushTold old new before after = (acts : List Act) × Flushes 0 acts × HasTol
 abbrev pub ServesLine : Line → Pass → Pass → List LaneAnswer → List LaneAnswer → Type 0
 ServesLine line old new before after = (acts : List Act) × LineAnswers 1 line acts × HasTold old new before after acts
 
--- where memory is wanting, the events that were made stand
-abbrev pub MadeSome : Pass → Pass → Type 0
-MadeSome old new = (events : List Numbered) × HasRun old new events
-
 -- how many events a line may have to have left before it: those of a call, and for a put also of the flush behind it
 abbrev pub need : Line → ℕ
 need (Put name time word) = 32776

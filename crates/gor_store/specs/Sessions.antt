@@ -17,7 +17,7 @@ use Rattle.gor_store.specs.Closings.{ClosesBy, only_last}
 use Rattle.gor_store.specs.Lanes.{AreTaken}
 use Rattle.gor_store.specs.Shards.{BeginsFrom, HasClosed}
 use Rattle.gor_store.specs.Stories.{LaneRun, served_in}
-use Rattle.gor_store.specs.Works.{IsWork}
+use Rattle.gor_store.specs.Works.{IsWork, IsAmong}
 use Rattle.gor_hall.specs.declared.pass.Pass.{Pass}
 use Rattle.gor_finish.specs.Made.{Numbered}
 
@@ -95,16 +95,18 @@ pub record HaveServed (passes : List Pass) (phases : List (List (List Line))) (l
 -- ---- the laws: what stands once a shard has closed
 
 module _ {D : Type 0} (tells : Bool) (view : D → DiskView) (faults : D → ℕ) where
-  -- whatever its passes did
+  -- Whatever its passes did: the text is that of the lines as these passes served them, and what came after it are the last
+  -- events of the lanes, and no others.
   abbrev pub SessionStands : Type 0
   SessionStands = (slots : ℕ) (old new : D) (start : Start) (passes : List Pass) (phases : List (List (List Line))) (last : ℕ → List Numbered) (text : List ℕ)
       → BeginsFrom 1 0 slots tells (view old) (faults old) start → AllByRecursion (AllByRecursion AreTaken) phases
-      → HaveServed passes phases last text → (closed : HasClosed tells view faults start 9 passes new)
-      → Session 1 0 slots tells view faults old new start closed.history × IsToldBy start phases text closed.history
+      → (served : HaveServed passes phases last text) → (closed : HasClosed tells view faults start 9 passes new)
+      → Session 1 0 slots tells view faults old new start closed.history
+      × (told : IsToldBy start phases text closed.history) × (told.transcript.served ≡ served_in served.runs) × AllByRecursion (λ e. IsAmong (last e.lane) e) told.later
 
   -- where nothing but a last flush came after the phases
   abbrev pub SessionIsWhole : Type 0
   SessionIsWhole = (shards shard since : ℕ) (new : D) (start : Start) (passes : List Pass) (phases : List (List (List Line))) (text : List ℕ) (stopped : Option ℕ) (events : List Numbered)
       → shards ≡ start.shards → shard ≡ start.shard → since ≡ start.since → AllByRecursion (AllByRecursion AreTaken) phases
-      → HaveServed passes phases (only_last events) text → ClosesBy stopped events → (closed : HasClosed tells view faults start 9 passes new)
-      → IsToldWhole start phases text closed.history × SessionEnds shards shard since tells (view new) start closed.history stopped
+      → (served : HaveServed passes phases (only_last events) text) → ClosesBy stopped events → (closed : HasClosed tells view faults start 9 passes new)
+      → (told : IsToldWhole start phases text closed.history) × (told.told.transcript.served ≡ served_in served.runs) × SessionEnds shards shard since tells (view new) start closed.history stopped

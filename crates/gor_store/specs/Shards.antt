@@ -1,5 +1,5 @@
 -- A shard as it opens, and as it closes.
-use Rattle.std.specs.Prelude.{◌≡◌, ℕ, ◌<◌, ◌≤◌, List, [], Bool, IsTrue, Some, slice_get, length}
+use Rattle.std.specs.Prelude.{◌≡◌, ℕ, ◌<◌, List, [], Bool, IsTrue, Some, slice_get, length}
 use Rattle.gor_disk.specs.Disk.{DiskView}
 use Rattle.gor_model.specs.Changes.{History}
 use Rattle.gor_model.specs.Objects.{share_of}
@@ -13,7 +13,7 @@ use Rattle.gor_flush.specs.Starts.{opened_start}
 use Rattle.gor_hall.specs.declared.hall.Hall.{Hall}
 use Rattle.gor_hall.specs.declared.pass.Pass.{Pass}
 use Rattle.gor_hall.specs.Closings.{IsWholeHistory}
-use Rattle.gor_hall.specs.Halls.{start_of, lanes_of, IsPassOf, IsFirstPass}
+use Rattle.gor_hall.specs.Halls.{lanes_of, IsPassOf, IsFirstPass}
 use Rattle.gor_hall.specs.Passes.{held, lane_of}
 use Rattle.gor_image.specs.Recovered.{IsRecovered}
 use Rattle.gor_image.specs.declared.recovered.Recovered.{Recovered}

@@ -1,5 +1,5 @@
 -- A store as its owner sees it between two calls, and what each call does to it.
-use Rattle.std.specs.Prelude.{◌≡◌, ◌⊎◌, ℕ, ◌+◌, ◌^◌, ◌≤◌, List, [], ◌∷◌, ◌++◌, sum_by, length, Option, Some, None, Bool, IsTrue, slice_get, vec_capacity, nat_eq, if◌then◌else◌}
+use Rattle.std.specs.Prelude.{◌≡◌, ℕ, ◌+◌, ◌^◌, ◌≤◌, List, [], ◌∷◌, ◌++◌, sum_by, length, Option, Some, None, Bool, IsTrue, slice_get, vec_capacity}
 use Rattle.gor_disk.specs.Disk.{DiskView}
 use Rattle.gor_model.specs.Windows.{slots_of_a_shard}
 use Rattle.gor_hall.specs.declared.hall.Hall.{Hall}

@@ -1,6 +1,7 @@
 -- What the passes of a shard have done so far, phase by phase, and how it goes on until the hall closes.
-use Rattle.std.specs.Prelude.{◌≡◌, ℕ, ◌<◌, List, [], ◌∷◌, ◌++◌, length, sum_by, slice_get, Some}
+use Rattle.std.specs.Prelude.{◌≡◌, ◌⊎◌, ℕ, ◌<◌, List, [], ◌∷◌, ◌++◌, length, sum_by, slice_get, Some}
 use Rattle.std.specs.List.{AllByRecursion}
+use Rattle.gor_model.specs.declared.event.Event.{Event}
 use Rattle.gor_model.specs.declared.start.Start.{Start}
 use Rattle.gor_model.specs.Changes.{History}
 use Rattle.gor_model.specs.Objects.{IsBeginning}
@@ -36,6 +37,11 @@ pub record IsWork (shard : ℕ) (passes : List Pass) (phases : List (List LaneRu
 
 abbrev pub nothing : ℕ → List Numbered
 nothing lane = []
+
+-- the event is one of these
+abbrev pub IsAmong : List Numbered → Event → Type 0
+IsAmong [] event = ⊥
+IsAmong (e ∷ events) event = (e.1 ≡ event) ⊎ IsAmong events event
 
 -- ---- laws
 
@@ -74,3 +80,8 @@ WorkIsTold = (shard : ℕ) (start : Start) (passes : List Pass) (h : History) (p
 abbrev pub WorkIsClosed : Type 0
 WorkIsClosed = (shard : ℕ) (start : Start) (passes : List Pass) (h : History) (phases : List (List LaneRun)) (last : ℕ → List Numbered)
     → IsWork shard passes phases last → ((lane : ℕ) → lane < 8 → last lane ≡ []) → IsWholeHistory start 9 passes h → IsOneHistory shard start h phases (last 8)
+
+-- and what comes behind the phases in that history are the last events of its lanes, and no others
+abbrev pub LaterIsLast : Type 0
+LaterIsLast = (shard : ℕ) (start : Start) (passes : List Pass) (h : History) (phases : List (List LaneRun)) (last : ℕ → List Numbered)
+    → IsWork shard passes phases last → IsWholeHistory start 9 passes h → (g : HistoryBegins shard start h phases last) → AllByRecursion (λ e. IsAmong (last e.lane) e) g.later

@@ -3,7 +3,8 @@ ghost use Rattle.std.specs.Prelude.{◌≡◌, ◌+◌, ◌*◌, ◌≤◌, [], 
 ghost use Rattle.gor_model.specs.Windows.{slots_of_a_shard};
 ghost use Rattle.gor_hall.specs.Halls.{start_of};
 ghost use Rattle.gor_hall.specs.Passes.{seen, left_of_pass};
-ghost use Rattle.gor_store.specs.Lines.{IsResting, RestsAgain, HasRun, MadeSome};
+ghost use Rattle.gor_store.specs.Lines.{IsResting, RestsAgain, HasRun};
+ghost use Rattle.gor_store.specs.LineCalls.{IsCallOf, MadeBy};
 ghost use Rattle.gor_store.specs.Lanes.{AreTaken, needs, ServesAll, RunsLane, MadeFrom};
 
 use crate::lines::serve_line;
@@ -48,7 +49,7 @@ fn serve_all<D: Disk, P: Pause, R: Wait>(
     requires left { needs lines.now ≤ left_of_pass pass.old }
     ensures rests { RestsAgain shard.now (3 * length lines.now) pass.old pass.new }
     ensures served { OnOk result (ServesAll lines.now pass.old pass.new answers.old.items answers.new.items) }
-    ensures err { OnErr result (MadeSome pass.old pass.new) }
+    ensures err { OnErr result (MadeBy (IsCallOf lines.now) pass.old pass.new) }
 {
     let mut place: u32 = 0;
     for line in lines {
@@ -61,7 +62,8 @@ fn serve_all<D: Disk, P: Pause, R: Wait>(
 /// Runs the lines of a lane in a phase, before which so many events were made: the lane waits until it has seen them, so that
 /// each of its events has a number that is at least their count. The answers were empty before.
 ///
-/// Where memory is wanting, the events that were made stand, and their numbers too are at least this.
+/// Where memory is wanting, the events that were made stand: they are of calls of these lines, and their numbers too are at least
+/// this.
 pub fn run_lane<D: Disk, P: Pause, R: Wait>(
     rt: &R,
     alloc: Global,
@@ -79,7 +81,7 @@ pub fn run_lane<D: Disk, P: Pause, R: Wait>(
     requires empty { answers.old.items ≡ [] }
     ensures rests { RestsAgain shard.now (3 * length lines.now) pass.old pass.new }
     ensures runs { OnOk result (RunsLane lines.now before pass.old pass.new answers.new.items) }
-    ensures err { OnErr result (MadeFrom before pass.old pass.new) }
+    ensures err { OnErr result (MadeFrom lines.now before pass.old pass.new) }
 {
     wait_for(rt, shard, pass, before);
     serve_all(rt, alloc, shard, pass, lines, pause, answers)

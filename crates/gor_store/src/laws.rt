@@ -1,7 +1,7 @@
 ghost use Rattle.gor_store.specs.Sessions.{SessionStands, SessionIsWhole};
 ghost use Rattle.gor_store.specs.Stories.{OneHistory, OneHistoryBegins};
 ghost use Rattle.gor_store.specs.WorkedStory.{WorkedStory};
-ghost use Rattle.gor_store.specs.Works.{WorkStarts, PhaseIsDone, LastIsDone, WorkIsCounted, AddedIsLater, WorkIsTold, WorkIsClosed};
+ghost use Rattle.gor_store.specs.Works.{WorkStarts, PhaseIsDone, LastIsDone, WorkIsCounted, AddedIsLater, WorkIsTold, WorkIsClosed, LaterIsLast};
 
 use gor_disk::Disk;
 
@@ -27,6 +27,8 @@ pub fn laws()
     // The one history of a hall that closes has just what its passes have done.
     ensures told { WorkIsTold }
     ensures closed { WorkIsClosed }
+    // What comes behind the phases in it are the last events of the passes, and no others.
+    ensures no_others { LaterIsLast }
 {}
 
 /// What stands once a shard has closed, as clauses: of a disk, of a session that its passes began from what that disk recovered
@@ -35,7 +37,8 @@ pub fn session_laws<D: Disk>()
     // Whatever the passes did, there is one legal history from what the disk recovered to as it was handed in. A Stop stands
     // in it only where the disk's faults rose. Every image of every moment since is fit and holds the state after a prefix of
     // its changes, and from the moment of each Done on one that has at least the changes which that Done counts. The text
-    // answers the lines of all phases by a history that begins it.
+    // answers the lines of all phases, as the passes served them, by a history that begins it; behind that come the last events
+    // of the lanes, and no others.
     ensures stands { SessionStands D.tells D.view D.faults }
     // Where nothing but a last flush came after the phases, its events are of lane 8 and add no change. A Stop stands exactly
     // where that flush was not answered; and where it was, nothing is pending, and every image holds all changes.

@@ -168,7 +168,7 @@ fn gather(alloc: Global, lanes: &mut [Lane]) -> Result<Vec<LaneAnswer>, AllocErr
 /// and then answers its lines. What they told comes back in the order in which it is written, that of lane 0 first.
 ///
 /// Where a lane finds no memory, or the list of all answers has none, the others run to their ends, each pass stays in its
-/// place, and the events that were made stand.
+/// place, and the events that were made stand, each of a call of a line of its lane.
 #[tactic(auto, using(crate::proofs::Crossing::shard_sync))]
 pub(crate) fn run_phase<D: Disk + Send, P: Pause + Sync, R: Threads + Wait + Sync>(
     rt: &R,
@@ -184,7 +184,7 @@ pub(crate) fn run_phase<D: Disk + Send, P: Pause + Sync, R: Threads + Wait + Syn
     requires ready { AreReady shard.now (phase_lines phase.now) (passes_of lanes.old) }
     ensures rests { HaveRested shard.now (phase_lines phase.now) (passes_of lanes.old) (passes_of lanes.new) }
     ensures ok { IfOk result (λ told. RanPhase (phase_lines phase.now) before (passes_of lanes.old) (passes_of lanes.new) told.items) }
-    ensures err { OnErr result (RanInPart before (passes_of lanes.old) (passes_of lanes.new)) }
+    ensures err { OnErr result (RanInPart (phase_lines phase.now) before (passes_of lanes.old) (passes_of lanes.new)) }
 {
     run_lanes(rt, alloc, shard, lanes, &phase.lanes, before, pause);
     gather(alloc, lanes)

@@ -174,7 +174,7 @@ impl<D: Disk + Send> Store<D> {
     /// Runs the lanes of a phase beside each other, once each has seen all events before the phase, and gives the answers in
     /// the order in which they are written. It waits for locks.
     ///
-    /// Where memory is wanting, the events that were made stand.
+    /// Where memory is wanting, the events that were made stand, each of a call of a line of its lane.
     pub fn run_phase<P: Pause + Sync, R: Threads + Wait + Sync>(
         &mut self,
         rt: &R,
@@ -190,7 +190,7 @@ impl<D: Disk + Send> Store<D> {
         ensures same { IsSameStore self.old self.new }
         ensures left { (n : ℕ) → HasLeft (n + 3 * lines_of_lanes (phase_lines phase.now)) self.old → HasLeft n self.new }
         ensures ok { IfOk result (λ told. RanPhase (phase_lines phase.now) (events_of self.old) (passes_of self.old) (passes_of self.new) told.items) }
-        ensures err { OnErr result (RanInPart (events_of self.old) (passes_of self.old) (passes_of self.new)) }
+        ensures err { OnErr result (RanInPart (phase_lines phase.now) (events_of self.old) (passes_of self.old) (passes_of self.new)) }
     {
         let before = count_events(&self.lanes, &self.closing);
         phases::run_phase(rt, alloc, &self.hall, &mut self.lanes, phase, before, pause)

@@ -27,5 +27,5 @@ pub all_written : (before after : Option (List ℕ)) (faults now : ℕ) (text re
 all_written before after faults now text rest w none =
     subst (Appends before after) (sym (w.parted ∙ (ap (λ (r : List ℕ). w.front ++ r) none ∙ append-nil w.front))) w.written
 
-pub part_written : (before after : Option (List ℕ)) (faults now : ℕ) (text rest : List ℕ) → WrittenSoFar before after faults now text rest → AppendsPart before after text
-part_written before after faults now text rest w = record { front = w.front; rest = rest; parted = w.parted; written = w.written }
+pub part_written : (before after : Option (List ℕ)) (faults now : ℕ) (text rest : List ℕ) → WrittenSoFar before after faults now text rest → ¬ (rest ≡ []) → AppendsPart before after text
+part_written before after faults now text rest w left = record { front = w.front; rest = rest; parted = w.parted; left = left; written = w.written }

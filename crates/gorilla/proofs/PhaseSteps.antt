@@ -1,6 +1,6 @@
 -- The phases of a run: what the passes of a shard have served grows by each of them, and what the sink holds by its text.
 use Rattle.std.proofs.Common.{◌≡◌, ℕ, zero, suc, ◌+◌, ◌*◌, ◌^◌, ◌<◌, ◌≤◌, List, [], ◌∷◌, ◌++◌, length, drop, get_or, Option, Some, slice_get, refl, sym, ap, subst, ◌∙◌, drop-cons, arith}
-use Rattle.std.specs.Prelude.{map, flat_map, sum_by}
+use Rattle.std.specs.Prelude.{map, sum_by}
 use Rattle.std.specs.List.{AllByRecursion}
 use Rattle.std.specs.Io.KnownBytes.{Appends}
 use Rattle.std.proofs.lemmas.List.{append_assoc, append-nil, drop_all, map-append, length-append, length-map}
@@ -16,15 +16,18 @@ use Rattle.gor_text.specs.declared.answer.LaneAnswer.{LaneAnswer}
 use Rattle.gor_text.specs.declared.workload.Line.{Line}
 use Rattle.gor_text.proofs.Interleavings.{all-append}
 use Rattle.gor_outside.specs.Causes.{Rose}
-use Rattle.gor_store.specs.Phases.{RanPhase, RanInPart}
+use Rattle.gor_store.specs.LineCalls.{IsCallOf, AreBy}
+use Rattle.gor_store.specs.Lanes.{AreTaken}
+use Rattle.gor_store.specs.Phases.{RanPhase, RanInPart, lines_at}
 use Rattle.gor_store.specs.Sessions.{HaveServed}
 use Rattle.gor_store.specs.Stores.{HasLeft, HasMadeNothing, IsAtRest, IsSameStore, events_of, lines_of_lanes, passes_of}
-use Rattle.gor_store.specs.Stories.{AllFrom, LaneRun, count_all, events_at, numbers_of, served_in}
+use Rattle.gor_store.specs.Stories.{AllFrom, AreRuns, LaneRun, count_all, events_at, numbers_of, served_in}
 use Rattle.gor_store.specs.Works.{HaveAdded, nothing}
 use Rattle.gor_store.specs.declared.store.Store.{Store}
+use Rattle.gor_store.proofs.LineCalls.{served_by}
 use Rattle.gor_store.proofs.StoryLists.{all_mapped}
 use Rattle.gor_store.proofs.Works.{work_starts, phase_is_done, last_is_done, work_is_counted}
-use Rattle.gorilla.specs.Outputs.{AppendsPart}
+use Rattle.gorilla.specs.Outputs.{AppendsPart, AppendsUntil}
 use Rattle.gorilla.specs.Serving.{AnswersPhase, WroteAll, WroteInPart, WroteUntil}
 use Rattle.gorilla.specs.TakenLines.{lines_of_phases}
 use Rattle.gorilla.proofs.KnownParts.{grown_by_none, grown_twice}
@@ -87,6 +90,28 @@ served_more olds news phases lanes text more h a =
           ∙ (sym (flat_map-append (phase_text_from 0) (served_in h.runs) (last ∷ [])) ∙ ap text_of (sym grows)));
     }
 
+-- the phases that were served are those before and this one
+served_more_in : (olds news : List Pass) (phases : List (List (List Line))) (lanes : List (List Line)) (text more : List ℕ) → (h : HaveServed olds phases nothing text)
+    → (a : AnswersPhase lanes (sum_by (λ p. length (made p)) olds) olds news more)
+    → served_in (served_more olds news phases lanes text more h a).runs ≡ served_in h.runs ++ map (λ r. r.served) a.ran.runs ∷ []
+unfolding served_more
+served_more_in olds news phases lanes text more h a = served_in-more h.runs a.ran.runs
+
+-- a front of the text of this phase was written, and something of it is left
+part_more : (olds news : List Pass) (phases : List (List (List Line))) (lanes : List (List Line)) (text more : List ℕ) (held grown after : Option (List ℕ)) → (h : HaveServed olds phases nothing text)
+    → (a : AnswersPhase lanes (sum_by (λ p. length (made p)) olds) olds news more) → Appends held grown text → AppendsPart grown after more
+    → AppendsUntil held after (served_in (served_more olds news phases lanes text more h a).runs)
+part_more olds news phases lanes text more held grown after h a appended part = record {
+  whole = served_in h.runs;
+  last = map (λ (r : LaneRun). r.served) a.ran.runs;
+  are = served_more_in olds news phases lanes text more h a;
+  front = part.front;
+  rest = part.rest;
+  parted = sym (a.is ∙ a.ran.tells) ∙ part.parted;
+  left = part.left;
+  written = subst (λ (t : List ℕ). Appends held after (t ++ part.front)) h.tells (grown_twice held grown after text part.front appended part.written);
+}
+
 grown_count : (olds news : List Pass) (events : ℕ → List Numbered) → HaveAdded olds news events → sum_by (λ p. length (made p)) olds ≤ sum_by (λ p. length (made p)) news
 grown_count [] news events added = omega arith
 grown_count (p ∷ olds) [] events added = absurd (omega (arith, added.as_many))
@@ -99,12 +124,13 @@ grown_count (p ∷ olds) (q ∷ news) events added =
     let same = ap length one.made_is in
     omega arith
 
-pub served_in_part : (olds news : List Pass) (phases rest all : List (List (List Line))) (text : List ℕ) (held grown : Option (List ℕ)) → HaveServed olds phases nothing text
-    → RanInPart (sum_by (λ p. length (made p)) olds) olds news → all ≡ phases ++ rest → Appends held grown text → WroteUntil news all held grown
-served_in_part olds news phases rest all text held grown h r parts appended =
+pub served_in_part : (olds news : List Pass) (phases : List (List (List Line))) (lanes : List (List Line)) (rest all : List (List (List Line))) (text : List ℕ) (held grown : Option (List ℕ)) → HaveServed olds phases nothing text
+    → RanInPart lanes (sum_by (λ p. length (made p)) olds) olds news → all ≡ phases ++ lanes ∷ rest → Appends held grown text → WroteUntil news all held grown
+served_in_part olds news phases lanes rest all text held grown h r parts appended =
     let count : sum_by (λ (p : Pass). length (made p)) olds ≡ count_all h.runs = work_is_counted 0 olds h.runs h.work in
     record {
       run = phases;
+      lanes = lanes;
       rest = rest;
       parts = parts;
       text = text;
@@ -117,6 +143,7 @@ served_in_part olds news phases rest all text held grown h r parts appended =
         tells = h.tells;
       };
       eight = r.eight;
+      of = r.of;
       counted = let up = grown_count olds news r.more r.added in omega (arith, count, up);
       appended = appended;
     }
@@ -133,12 +160,32 @@ events_past k [] past = refl
 events_past zero (r ∷ runs) past = absurd (omega (arith, past))
 events_past (suc k) (r ∷ runs) past = events_past k runs (omega (arith, past))
 
-pub ran_in_part : (lanes : List (List Line)) (before : ℕ) (olds news : List Pass) (told : List LaneAnswer) → RanPhase lanes before olds news told → RanInPart before olds news
-ran_in_part lanes before olds news told r = record {
+-- the events of each lane are of calls of its lines
+lanes_by : (lane : ℕ) (runs : List LaneRun) → AreRuns 0 lane runs → AllByRecursion (λ r. AllByRecursion (λ (s : Served). LineAnswers 1 s.line s.acts) r.served) runs
+    → AllByRecursion AreTaken (map (λ (r : LaneRun). map (λ (s : Served). s.line) r.served) runs)
+    → (k : ℕ) → AreBy (lane + k) (IsCallOf (lines_at (map (λ (r : LaneRun). map (λ (s : Served). s.line) r.served) runs) k)) (events_at k runs)
+lanes_by lane [] are answered taken k = tt
+lanes_by lane (r ∷ runs) are answered taken zero =
+    let lines = map (λ (s : Served). s.line) r.served in
+    subst (λ (l : ℕ). AreBy l (IsCallOf lines) r.events) (omega arith) (served_by lines lane r.served r.events taken.0 refl answered.0 (are.0.prints 0) are.0.own)
+lanes_by lane (r ∷ runs) are answered taken (suc k) =
+    subst (λ (l : ℕ). AreBy l (IsCallOf (lines_at (map (λ (q : LaneRun). map (λ (s : Served). s.line) q.served) runs) k)) (events_at k runs)) (omega arith)
+    (lanes_by (lane + 1) runs are.1 answered.1 taken.1 k)
+
+phase_by : (lanes : List (List Line)) (runs : List LaneRun) → AreRuns 0 0 runs → map (λ (r : LaneRun). map (λ (s : Served). s.line) r.served) runs ≡ lanes
+    → AllByRecursion (λ r. AllByRecursion (λ (s : Served). LineAnswers 1 s.line s.acts) r.served) runs → AllByRecursion AreTaken lanes
+    → (k : ℕ) → AreBy k (IsCallOf (lines_at lanes k)) (events_at k runs)
+phase_by lanes runs are served answered taken k =
+    subst (λ (l : ℕ). AreBy l (IsCallOf (lines_at lanes k)) (events_at k runs)) (omega arith)
+    (subst (λ (ls : List (List Line)). AreBy (0 + k) (IsCallOf (lines_at ls k)) (events_at k runs)) served (lanes_by 0 runs are answered (subst (AllByRecursion AreTaken) (sym served) taken) k))
+
+pub ran_in_part : (lanes : List (List Line)) (before : ℕ) (olds news : List Pass) (told : List LaneAnswer) → AllByRecursion AreTaken lanes → RanPhase lanes before olds news told → RanInPart lanes before olds news
+ran_in_part lanes before olds news told taken r = record {
   more = λ k. events_at k r.runs;
   added = r.added;
   from = λ k. events_from before k r.runs r.from;
   eight = λ k past. events_past k r.runs (omega (arith, past, r.eight));
+  of = phase_by lanes r.runs r.are r.served r.answered taken;
 }
 
 -- ---- the loop over phases
@@ -220,16 +267,13 @@ module _ {D : Type 0} (old now next : Store D) (held grown : Option (List ℕ)) 
     parts = parted;
     text = so_far.text ++ text;
     served = served_more (passes_of now) (passes_of next) so_far.done lanes so_far.text text so_far.served answers;
-    appended = record {
-      front = so_far.text ++ part.front;
-      rest = part.rest;
-      parted = ap (λ (t : List ℕ). so_far.text ++ t) part.parted ∙ sym (append_assoc so_far.text part.front part.rest);
-      written = grown_twice held grown more so_far.text part.front so_far.appended part.written;
-    };
+    appended = part_more (passes_of now) (passes_of next) so_far.done lanes so_far.text text held grown more so_far.served answers so_far.appended part;
   }
 
-  pub no_memory : RanInPart (events_of now) (passes_of now) (passes_of next) → WroteUntil (passes_of next) phases held grown
-  no_memory part = served_in_part (passes_of now) (passes_of next) so_far.done left phases so_far.text held grown so_far.served part so_far.parts so_far.appended
+  pub no_memory : RanInPart lanes (events_of now) (passes_of now) (passes_of next) → WroteUntil (passes_of next) phases held grown
+  no_memory part =
+      served_in_part (passes_of now) (passes_of next) so_far.done lanes rest phases so_far.text held grown so_far.served part
+      (so_far.parts ∙ ap (λ (l : List (List (List Line))). so_far.done ++ l) first) so_far.appended
 
   pub rose_since : (later : ℕ) → Rose after later → Rose before later
   rose_since later rose = subst (λ (n : ℕ). Rose n later) so_far.quiet rose

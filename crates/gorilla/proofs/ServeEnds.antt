@@ -1,7 +1,7 @@
 -- How a run ends on an open store: what its disk and its sink hold, by its status.
 use Rattle.std.proofs.lemmas.Bool.{eqb-true}
 use Rattle.std.proofs.lemmas.List.{append-nil}
-use Rattle.std.proofs.Common.{◌≡◌, ◌⊎◌, inl, inr, ℕ, ◌+◌, ◌<◌, ◌≤◌, List, [], ◌∷◌, ◌++◌, length, Option, Some, None, Result, Ok, Err, Bool, true, false, cond, refl, sym, ap, subst, ◌∙◌, arith}
+use Rattle.std.proofs.Common.{◌≡◌, ◌⊎◌, inl, inr, ℕ, ◌<◌, ◌≤◌, List, [], ◌∷◌, ◌++◌, length, Option, Some, None, Result, Ok, Err, Bool, true, false, cond, refl, sym, ap, subst, ◌∙◌, arith}
 use Rattle.std.specs.Prelude.{nat_eq, sum_by}
 use Rattle.std.specs.List.{AllByRecursion}
 use Rattle.gor_disk.specs.Disk.{DiskView}
@@ -12,23 +12,27 @@ use Rattle.gor_hall.specs.Halls.{start_of}
 use Rattle.gor_hall.specs.Passes.{made}
 use Rattle.gor_flush.specs.Starts.{opened_start}
 use Rattle.gor_image.specs.declared.recovered.Recovered.{Recovered}
+use Rattle.gor_model.specs.declared.event.Event.{Event}
 use Rattle.gor_model.specs.declared.start.Start.{Start}
+use Rattle.gor_text.specs.Transcripts.{Served}
 use Rattle.gor_text.specs.declared.workload.Line.{Line}
 use Rattle.gor_text.proofs.Interleavings.{all-map}
-use Rattle.gor_store.specs.Closings.{ClosesBy, only_last}
+use Rattle.gor_store.specs.Closings.{only_last}
+use Rattle.gor_store.specs.LineCalls.{IsCallOf, AreBy}
 use Rattle.gor_store.specs.Lanes.{AreTaken}
+use Rattle.gor_store.specs.Phases.{lines_at}
 use Rattle.gor_store.specs.Sessions.{HaveServed, SessionStands, SessionIsWhole}
 use Rattle.gor_store.specs.Shards.{BeginsFrom, HasClosed}
-use Rattle.gor_store.specs.Stores.{IsSameStore, ComeBack, HasFlushed, others_of, passes_of, events_of}
-use Rattle.gor_store.specs.Stories.{AllFrom, LaneRun, count_all}
-use Rattle.gor_store.specs.Works.{HaveAdded, nothing}
+use Rattle.gor_store.specs.Stores.{IsSameStore, ComeBack, HasFlushed, others_of, passes_of}
+use Rattle.gor_store.specs.Stories.{AllFrom, count_all, served_in}
+use Rattle.gor_store.specs.Works.{HaveAdded, IsAmong, nothing}
 use Rattle.gor_store.specs.declared.store.Store.{Store}
 use Rattle.gor_store.proofs.StoryLists.{all_front}
 use Rattle.gor_store.proofs.Works.{last_is_done, work_is_counted}
 use Rattle.gorilla.specs.Dumps.{CallsFirst}
-use Rattle.gorilla.specs.Outputs.{AppendsPart}
+use Rattle.gorilla.specs.Outputs.{AppendsUntil}
 use Rattle.gorilla.specs.Runs.{HeldSession, HeldWhole}
-use Rattle.gorilla.specs.Serving.{EndsBy, HasEnded, HasWritten, WroteAll, WroteInPart, WroteUntil, status_by}
+use Rattle.gorilla.specs.Serving.{EndsBy, HasEnded, HasWritten, status_by}
 use Rattle.gorilla.specs.TakenLines.{AreTakenPhases, IsTakenPhase}
 use Rattle.gorilla.specs.declared.serving.PhaseFault.{PhaseFault}
 use Rattle.gorilla.specs.declared.status.Status.{Status}
@@ -65,6 +69,41 @@ served_whole : (olds news : List Pass) (phases : List (List (List Line))) (text 
     → HaveAdded olds news (only_last events) → AllFrom (sum_by (λ p. length (made p)) olds) events → HaveServed news phases (only_last events) text
 served_whole olds news phases text events h added from =
     served_last olds news phases nothing text events h (let count = work_is_counted 0 olds h.runs h.work in omega (arith, count)) added from
+
+-- they are the same phases
+whole_runs : (olds news : List Pass) (phases : List (List (List Line))) (text : List ℕ) (events : List Numbered) → (h : HaveServed olds phases nothing text)
+    → (added : HaveAdded olds news (only_last events)) → (from : AllFrom (sum_by (λ p. length (made p)) olds) events) → (served_whole olds news phases text events h added from).runs ≡ h.runs
+unfolding served_whole served_last
+whole_runs olds news phases text events h added from = refl
+
+-- ---- the events behind those of the phases
+
+-- what is among two lists is among one of them
+among_both : (P Q : Event → Type 0) (xs ys : List Numbered) (e : Event) → AllByRecursion (λ x. P x.1) xs → AllByRecursion (λ y. Q y.1) ys → IsAmong (xs ++ ys) e → P e ⊎ Q e
+among_both P Q [] [] e ps qs among = absurd among
+among_both P Q [] (y ∷ ys) e ps qs (inl is) = inr (subst Q is qs.0)
+among_both P Q [] (y ∷ ys) e ps qs (inr more) = among_both P Q [] ys e ps qs.1 more
+among_both P Q (x ∷ xs) ys e ps qs (inl is) = inl (subst P is ps.0)
+among_both P Q (x ∷ xs) ys e ps qs (inr more) = among_both P Q xs ys e ps.1 qs more
+
+of_eight : (events : List Numbered) (k : ℕ) → AllByRecursion (λ (e : Numbered). k ≡ 8) (only_last events k)
+of_eight events k = at (nat_eq k 8) refl where
+  each : (es : List Numbered) → k ≡ 8 → AllByRecursion (λ (e : Numbered). k ≡ 8) es
+  each [] is = tt
+  each (e ∷ es) is = (is, each es is)
+
+  at : (b : Bool) → nat_eq k 8 ≡ b → AllByRecursion (λ (e : Numbered). k ≡ 8) (cond b events [])
+  at true is = each events (eqb-true k 8 is)
+  at false is = tt
+
+-- those of a lane are of its lines, or it is lane 8
+besides : (lanes : List (List Line)) (more : ℕ → List Numbered) (events : List Numbered) → ((k : ℕ) → AreBy k (IsCallOf (lines_at lanes k)) (more k))
+    → (e : Event) → IsAmong (more e.lane ++ only_last events e.lane) e → (e.lane ≡ 8) ⊎ IsCallOf (lines_at lanes e.lane) e.call
+besides lanes more events of e among =
+    turned (among_both (λ (x : Event). (x.lane ≡ e.lane) × IsCallOf (lines_at lanes e.lane) x.call) (λ (x : Event). e.lane ≡ 8) (more e.lane) (only_last events e.lane) e (of e.lane) (of_eight events e.lane) among) where
+      turned : ((e.lane ≡ e.lane) × IsCallOf (lines_at lanes e.lane) e.call) ⊎ (e.lane ≡ 8) → (e.lane ≡ 8) ⊎ IsCallOf (lines_at lanes e.lane) e.call
+      turned (inl own) = inr own.1
+      turned (inr is) = inl is
 
 -- ---- the end of a store
 
@@ -105,8 +144,13 @@ front_taken run rest phases parts taken = taken_lines run (all_front IsTakenPhas
 
 module _ {D : Type 0} (tells : Bool) (view : D → DiskView) (faults : D → ℕ) (stands : SessionStands tells view faults) (is_whole : SessionIsWhole tells view faults)
     (store : Store D) (first : D) (slots : ℕ) (begins : BeginsFrom 1 0 slots tells (view first) (faults first) (start_of store.hall)) where
+  -- the text is that of the phases that were served
+  record Whole (phases : List (List (List Line))) (text : List ℕ) (stopped : Option ℕ) (now : D) (served : List (List (List Served))) : Type 0 where
+    held : HeldWhole tells view faults slots first now phases text stopped
+    same : held.told.told.transcript.served ≡ served
+
   held_whole : (phases : List (List (List Line))) (text : List ℕ) (stopped : Option ℕ) (disks : List D) → AllByRecursion (AllByRecursion AreTaken) phases → (e : HasEnded tells view faults store stopped disks)
-      → HaveServed (passes_of store) phases nothing text → HeldWhole tells view faults slots first e.disk phases text stopped
+      → (served : HaveServed (passes_of store) phases nothing text) → Whole phases text stopped e.disk (served_in served.runs)
   held_whole phases text stopped disks taken e served =
       let start = start_of store.hall in
       let all = served_whole (passes_of store) e.passes phases text e.events served e.added e.from in
@@ -115,16 +159,28 @@ module _ {D : Type 0} (tells : Bool) (view : D → DiskView) (faults : D → ℕ
       let shard = ap (λ (s : Start). s.shard) begins.same ∙ shard_of slots begins.recovered 1 0 (view first).moment (faults first) in
       let since = ap (λ (s : Start). s.since) begins.same ∙ since_of slots begins.recovered 1 0 (view first).moment (faults first) in
       let whole = is_whole 1 0 (view first).moment e.disk start e.passes phases text stopped e.events (sym shards) (sym shard) (sym since) taken all e.closes e.closed in
-      record { start = start; history = e.closed.history; session = session.0; told = whole.0; ends = whole.1 }
+      record {
+        held = record { start = start; history = e.closed.history; session = session.0; told = whole.0; ends = whole.2 };
+        same = whole.1 ∙ ap served_in (whole_runs (passes_of store) e.passes phases text e.events served e.added e.from);
+      }
 
-  held_session : (phases : List (List (List Line))) (text : List ℕ) (more : ℕ → List Numbered) (stopped : Option ℕ) (disks : List D) → AllByRecursion (AllByRecursion AreTaken) phases
+  -- what came after the phases is of the lines of these lanes, or of lane 8
+  record InPart (phases : List (List (List Line))) (text : List ℕ) (lanes : List (List Line)) (now : D) : Type 0 where
+    held : HeldSession tells view faults slots first now phases text
+    of : AllByRecursion (λ e. (e.lane ≡ 8) ⊎ IsCallOf (lines_at lanes e.lane) e.call) held.told.later
+
+  held_session : (phases : List (List (List Line))) (text : List ℕ) (lanes : List (List Line)) (more : ℕ → List Numbered) (stopped : Option ℕ) (disks : List D) → AllByRecursion (AllByRecursion AreTaken) phases
       → (e : HasEnded tells view faults store stopped disks) → (served : HaveServed (passes_of store) phases more text) → count_all served.runs ≤ sum_by (λ p. length (made p)) (passes_of store)
-      → HeldSession tells view faults slots first e.disk phases text
-  held_session phases text more stopped disks taken e served counted =
+      → ((k : ℕ) → AreBy k (IsCallOf (lines_at lanes k)) (more k)) → InPart phases text lanes e.disk
+  held_session phases text lanes more stopped disks taken e served counted of =
       let start = start_of store.hall in
       let all = served_last (passes_of store) e.passes phases more text e.events served counted e.added e.from in
       let session = stands slots first e.disk start e.passes phases (λ k. more k ++ only_last e.events k) text begins taken all e.closed in
-      record { start = start; history = e.closed.history; session = session.0; told = session.1 }
+      record {
+        held = record { start = start; history = e.closed.history; session = session.0; told = session.1 };
+        of = all-map (λ (x : Event). IsAmong (more x.lane ++ only_last e.events x.lane) x) (λ (x : Event). (x.lane ≡ 8) ⊎ IsCallOf (lines_at lanes x.lane) x.call)
+            (λ x among. besides lanes more e.events of x among) session.1.later session.3;
+      }
 
   rose_so : (phases : List (List (List Line))) (text : List ℕ) (now : D) → HeldWhole tells view faults slots first now phases text (Some 0) → disk.Rose (faults first) (faults now)
   rose_so phases text now held = held.session.rose held.ends.stops
@@ -133,37 +189,41 @@ module _ {D : Type 0} (tells : Bool) (view : D → DiskView) (faults : D → ℕ
       → AreTakenPhases phases → HasWritten written (passes_of store) phases held grown before after → (e : HasEnded tells view faults store stopped disks)
       → EndsBy tells view faults (status_by written stopped) slots phases held grown before after first e.disk
   ends_by (Ok v) None phases held grown before after disks taken w e =
-      (record { text = w.0.text; whole = held_whole phases w.0.text None disks (taken_lines phases taken) e w.0.served; appended = w.0.appended }, w.1)
+      (record { text = w.0.text; whole = (held_whole phases w.0.text None disks (taken_lines phases taken) e w.0.served).held; appended = w.0.appended }, w.1)
   ends_by (Ok v) (Some shard) phases held grown before after disks taken w e =
       let first_shard : shard ≡ 0 = e.closes.0 in
-      let whole = subst (λ (n : ℕ). HeldWhole tells view faults slots first e.disk phases w.0.text (Some n)) first_shard (held_whole phases w.0.text (Some shard) disks (taken_lines phases taken) e w.0.served) in (
+      let whole = subst (λ (n : ℕ). HeldWhole tells view faults slots first e.disk phases w.0.text (Some n)) first_shard (held_whole phases w.0.text (Some shard) disks (taken_lines phases taken) e w.0.served).held in (
         first_shard,
         rose_so phases w.0.text e.disk whole,
         record { run = phases; rest = []; parts = sym (append-nil phases); text = w.0.text; whole = whole; appended = inl (refl, w.0.appended, w.1) },
       )
-  ends_by (Err fault.Write) None phases held grown before after disks taken w e = (
-    record { run = w.0.run; rest = w.0.rest; parts = w.0.parts; text = w.0.text; whole = held_whole w.0.run w.0.text None disks (front_taken w.0.run w.0.rest phases w.0.parts taken) e w.0.served; appended = w.0.appended },
-    w.1,
-  )
+  ends_by (Err fault.Write) None phases held grown before after disks taken w e =
+      let whole = held_whole w.0.run w.0.text None disks (front_taken w.0.run w.0.rest phases w.0.parts taken) e w.0.served in (
+        record { run = w.0.run; rest = w.0.rest; parts = w.0.parts; text = w.0.text; whole = whole.held; appended = subst (AppendsUntil held grown) (sym whole.same) w.0.appended },
+        w.1,
+      )
   ends_by (Err fault.Write) (Some shard) phases held grown before after disks taken w e =
       let first_shard : shard ≡ 0 = e.closes.0 in
-      let whole = subst (λ (n : ℕ). HeldWhole tells view faults slots first e.disk w.0.run w.0.text (Some n)) first_shard
+      let whole = subst (λ (n : ℕ). Whole w.0.run w.0.text (Some n) e.disk (served_in w.0.served.runs)) first_shard
       (held_whole w.0.run w.0.text (Some shard) disks (front_taken w.0.run w.0.rest phases w.0.parts taken) e w.0.served) in (
         first_shard,
-        rose_so w.0.run w.0.text e.disk whole,
-        record { run = w.0.run; rest = w.0.rest; parts = w.0.parts; text = w.0.text; whole = whole; appended = inr (w.0.appended, w.1) },
+        rose_so w.0.run w.0.text e.disk whole.held,
+        record { run = w.0.run; rest = w.0.rest; parts = w.0.parts; text = w.0.text; whole = whole.held; appended = inr (subst (AppendsUntil held grown) (sym whole.same) w.0.appended, w.1) },
       )
-  ends_by (Err fault.NoMemory) stopped phases held grown before after disks taken w e = (
-    record {
-      run = w.0.run;
-      rest = w.0.rest;
-      parts = w.0.parts;
-      text = w.0.text;
-      part = held_session w.0.run w.0.text w.0.more stopped disks (front_taken w.0.run w.0.rest phases w.0.parts taken) e w.0.served w.0.counted;
-      appended = w.0.appended;
-    },
-    w.1,
-  )
+  ends_by (Err fault.NoMemory) stopped phases held grown before after disks taken w e =
+      let part = held_session w.0.run w.0.text w.0.lanes w.0.more stopped disks (front_taken w.0.run (w.0.lanes ∷ w.0.rest) phases w.0.parts taken) e w.0.served w.0.counted w.0.of in (
+        record {
+          run = w.0.run;
+          lanes = w.0.lanes;
+          rest = w.0.rest;
+          parts = w.0.parts;
+          text = w.0.text;
+          part = part.held;
+          besides = part.of;
+          appended = w.0.appended;
+        },
+        w.1,
+      )
 
 pub serve_ends : {D T : Type 0} (tells : Bool) (view : D → DiskView) (faults : D → ℕ) → SessionStands tells view faults → SessionIsWhole tells view faults
     → (old new : Store D) (written : Result T PhaseFault) (stopped : Option ℕ) (phases : List (List (List Line))) (held grown : Option (List ℕ)) (before after : ℕ) (disks : List D) (first : D) (slots : ℕ)

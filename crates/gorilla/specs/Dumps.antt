@@ -14,7 +14,7 @@ use Rattle.gor_model.specs.declared.start.Row.{Row}
 use Rattle.gor_model.specs.declared.start.Start.{Start}
 use Rattle.gor_text.specs.Dumps.{floor_line, series_line}
 use Rattle.gorilla.specs.Outputs.{AppendsPart}
-use Rattle.gorilla.specs.Words.{most_slots, asks_dump}
+use Rattle.gorilla.specs.Words.{most_slots}
 use Rattle.gorilla.specs.declared.status.Status.{Status}
 use Rattle.gorilla.specs.declared.status.Status.TheVariants as status
 

@@ -1,6 +1,6 @@
 -- What a run reads, what it writes, and what it leaves on its disks.
 use Rattle.std.specs.Prelude.{◌≡◌, ◌⊎◌, ℕ, ◌≤◌, List, [], ◌∷◌, ◌++◌, length, Option, Some, None, Bool, IsTrue}
-use Rattle.std.specs.List.{list_all}
+use Rattle.std.specs.List.{AllByRecursion, list_all}
 use Rattle.std.specs.Io.KnownBytes.{Appends}
 use Rattle.gor_disk.specs.Disk.{DiskView}
 use Rattle.gor_outside.specs.Causes.{Rose}
@@ -10,11 +10,13 @@ use Rattle.gor_image.specs.declared.recovered.OpenFault.{OpenFault}
 use Rattle.gor_text.specs.declared.workload.Line.{Line}
 use Rattle.gor_text.specs.Workloads.{IsWorkloadText, IsFirstBad, is_good_line}
 use Rattle.gor_text.specs.Grammar.{lines_of}
+use Rattle.gor_store.specs.LineCalls.{IsCallOf}
+use Rattle.gor_store.specs.Phases.{lines_at}
 use Rattle.gor_store.specs.Sessions.{Session, SessionEnds, IsToldBy, IsToldWhole}
 use Rattle.gor_store.specs.Stores.{WasRefused}
 use Rattle.gorilla.specs.Inputs.{most_input, IsWhole}
 use Rattle.gorilla.specs.Words.{slots_of_run}
-use Rattle.gorilla.specs.Outputs.{AppendsPart}
+use Rattle.gorilla.specs.Outputs.{AppendsUntil}
 use Rattle.gorilla.specs.TakenLines.{is_taken_item}
 
 -- ---- what was asked for
@@ -64,31 +66,34 @@ module _ {D : Type 0} (tells : Bool) (view : D → DiskView) (faults : D → ℕ
     pub whole : HeldWhole slots disk now phases text None
     pub appended : Appends held written text
 
-  -- the shard is stopped: the sink grew by the text of all phases and did not fail, or it failed and grew by a front of the text of those that were run
+  -- the shard is stopped: the sink grew by the text of all phases and did not fail, or it failed within the text of the last of those that were run
   pub record EndsStopped (slots : ℕ) (phases : List (List (List Line))) (held written : Option (List ℕ)) (before after : ℕ) (disk now : D) : Type 0 where
     pub run : List (List (List Line))
     pub rest : List (List (List Line))
     pub parts : phases ≡ run ++ rest
     pub text : List ℕ
     pub whole : HeldWhole slots disk now run text (Some 0)
-    pub appended : ((rest ≡ []) × Appends held written text × (after ≡ before)) ⊎ (AppendsPart held written text × Rose before after)
+    pub appended : ((rest ≡ []) × Appends held written text × (after ≡ before)) ⊎ (AppendsUntil held written whole.told.told.transcript.served × Rose before after)
 
-  -- the sink failed: it grew by a front of the text of the phases that were run
+  -- the sink failed within the text of the last of the phases that were run
   pub record EndsUnwritten (slots : ℕ) (phases : List (List (List Line))) (held written : Option (List ℕ)) (disk now : D) : Type 0 where
     pub run : List (List (List Line))
     pub rest : List (List (List Line))
     pub parts : phases ≡ run ++ rest
     pub text : List ℕ
     pub whole : HeldWhole slots disk now run text None
-    pub appended : AppendsPart held written text
+    pub appended : AppendsUntil held written whole.told.told.transcript.served
 
-  -- memory was wanting in a phase: the sink grew by the text of those before it
+  -- Memory was wanting in a phase: the sink grew by the text of those before it, and besides their events the history has only
+  -- such of lines of this phase, and of lane 8.
   pub record EndsInPart (slots : ℕ) (phases : List (List (List Line))) (held written : Option (List ℕ)) (disk now : D) : Type 0 where
     pub run : List (List (List Line))
+    pub lanes : List (List Line)
     pub rest : List (List (List Line))
-    pub parts : phases ≡ run ++ rest
+    pub parts : phases ≡ run ++ lanes ∷ rest
     pub text : List ℕ
     pub part : HeldSession slots disk now run text
+    pub besides : AllByRecursion (λ e. (e.lane ≡ 8) ⊎ IsCallOf (lines_at lanes e.lane) e.call) part.told.later
     pub appended : Appends held written text
 
   -- ---- the same of a run, whose phases the source gave

@@ -14,14 +14,15 @@ use Rattle.gor_text.specs.declared.answer.LaneAnswer.{LaneAnswer}
 use Rattle.gor_text.specs.declared.workload.Line.{Line}
 use Rattle.gor_text.specs.Spelling.{answer_line}
 use Rattle.gor_store.specs.Closings.{ClosesBy, only_last}
-use Rattle.gor_store.specs.Phases.{RanPhase}
+use Rattle.gor_store.specs.LineCalls.{IsCallOf, AreBy}
+use Rattle.gor_store.specs.Phases.{RanPhase, lines_at}
 use Rattle.gor_store.specs.Sessions.{HaveServed}
 use Rattle.gor_store.specs.Shards.{HasClosed}
 use Rattle.gor_store.specs.Stores.{events_of, others_of, passes_of}
-use Rattle.gor_store.specs.Stories.{AllFrom, LaneRun, count_all}
+use Rattle.gor_store.specs.Stories.{AllFrom, count_all, served_in}
 use Rattle.gor_store.specs.Works.{HaveAdded, nothing}
 use Rattle.gor_store.specs.declared.store.Store.{Store}
-use Rattle.gorilla.specs.Outputs.{AppendsPart}
+use Rattle.gorilla.specs.Outputs.{AppendsUntil}
 use Rattle.gorilla.specs.Runs.{EndsWell, EndsStopped, EndsUnwritten, EndsInPart}
 use Rattle.gorilla.specs.declared.serving.PhaseFault.{PhaseFault}
 use Rattle.gorilla.specs.declared.serving.PhaseFault.TheVariants as fault
@@ -42,24 +43,26 @@ pub record WroteAll (passes : List Pass) (phases : List (List (List Line))) (hel
   pub served : HaveServed passes phases nothing text
   pub appended : Appends held written text
 
--- a write failed: the sink grew by a front of the text of those that were run
+-- a write failed, within the text of the last of those that were run
 pub record WroteInPart (passes : List Pass) (phases : List (List (List Line))) (held written : Option (List ℕ)) : Type 0 where
   pub run : List (List (List Line))
   pub rest : List (List (List Line))
   pub parts : phases ≡ run ++ rest
   pub text : List ℕ
   pub served : HaveServed passes run nothing text
-  pub appended : AppendsPart held written text
+  pub appended : AppendsUntil held written (served_in served.runs)
 
--- memory was wanting in a phase: the sink grew by the text of those before it, and some events were made behind them
+-- memory was wanting in a phase: the sink grew by the text of those before it, and some events of its lines were made behind them
 pub record WroteUntil (passes : List Pass) (phases : List (List (List Line))) (held written : Option (List ℕ)) : Type 0 where
   pub run : List (List (List Line))
+  pub lanes : List (List Line)
   pub rest : List (List (List Line))
-  pub parts : phases ≡ run ++ rest
+  pub parts : phases ≡ run ++ lanes ∷ rest
   pub text : List ℕ
   pub more : ℕ → List Numbered
   pub served : HaveServed passes run more text
   pub eight : (k : ℕ) → 8 ≤ k → more k ≡ []
+  pub of : (k : ℕ) → AreBy k (IsCallOf (lines_at lanes k)) (more k)
   pub counted : count_all served.runs ≤ sum_by (λ p. length (made p)) passes
   pub appended : Appends held written text
 

@@ -1,5 +1,5 @@
 -- What stands under the statuses of a run.
-use Rattle.std.specs.Prelude.{◌≡◌, ℕ, List, Option, ⊤}
+use Rattle.std.specs.Prelude.{ℕ, List, Option, ⊤}
 use Rattle.gor_outside.specs.Causes.{Rose}
 use Rattle.gor_text.specs.declared.workload.Line.{Line}
 use Rattle.gor_text.specs.Workloads.{IsWorkloadText}

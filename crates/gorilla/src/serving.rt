@@ -67,7 +67,7 @@ fn answer_phase<D: Disk + Send, P: Pause + Sync, R: Threads + Wait + Sync>(
     ensures same { IsSameStore store.old store.new }
     ensures left { (n : ℕ) → HasLeft (n + 3 * lines_of_lanes (phase_lines phase.now)) store.old → HasLeft n store.new }
     ensures ok { IfOk result (λ text. AnswersPhase (phase_lines phase.now) (events_of store.old) (passes_of store.old) (passes_of store.new) text.items) }
-    ensures err { OnErr result (RanInPart (events_of store.old) (passes_of store.old) (passes_of store.new)) }
+    ensures err { OnErr result (RanInPart (phase_lines phase.now) (events_of store.old) (passes_of store.old) (passes_of store.new)) }
 {
     let told = store.run_phase(rt, alloc, phase, pause)?;
     text_of(alloc, &told)

@@ -1,4 +1,4 @@
-use Rattle.std.proofs.Common.{[], subst, List}
+use Rattle.std.proofs.Common.{subst, List}
 use Rattle.std.proofs.lemmas.Result.{on_ok_weaker, on_err_weaker}
 use Rattle.gor_text.specs.declared.answer.LaneAnswer.{LaneAnswer}
 use Rattle.gor_store.specs.Lanes.{ServesAll}
@@ -15,4 +15,4 @@ returns-clause-runs g c =
 pub returns-clause-err : goal.returns-clause-err
 returns-clause-err g c =
     let w = c.wait_for.ensures in let s = c.serve_all.ensures in
-    on_err_weaker c.serve_all.result (made_from c.args.before c.args.pass.now c.wait_for.new.pass c.serve_all.new.pass w.rests.lane s.rests.lane w.rests.rests.own w.long w.none) s.err
+    on_err_weaker c.serve_all.result (made_from c.args.lines.now c.args.before c.args.pass.now c.wait_for.new.pass c.serve_all.new.pass w.rests.lane s.rests.lane w.rests.rests.own w.long w.none) s.err

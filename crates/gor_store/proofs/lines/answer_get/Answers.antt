@@ -1,5 +1,5 @@
 use Rattle.std.proofs.Common.{rules, ◌≡◌, ℕ, List, ap, ◌∙◌, subst}
-use Rattle.gor_model.specs.Names.{IsName, key_of}
+use Rattle.gor_model.specs.Names.{IsName}
 use Rattle.gor_point.specs.Points.{GetRefused}
 use Rattle.gor_text.specs.LineAnswers.{LineAnswers}
 use Rattle.gor_text.specs.declared.answer.Reason.TheVariants as reason
@@ -32,4 +32,6 @@ returns-in-Err-Range-clause-told g c =
     told_range c.args.shard.now c.args.name.now c.in-Some.name c.args.from c.args.to _ _ c.args.pass.now c.get.new.pass c.in-Err-Range.field-0 c.requires.rests named c.in-Err-Range.ensures.refused c.in-Err-Range.field-0-is
 
 pub returns-clause-err : goal.returns-clause-err
-returns-clause-err g c = get_some c.args.shard.now c.args.pass.now c.get.new.pass (key_of c.in-Some.name) c.args.from c.args.to c.in-Err-NoMemory.field-0 c.requires.rests c.in-Err-NoMemory.ensures.refused
+returns-clause-err g c =
+    let same : c.in-Some.name ≡ c.args.name.now = search rules in
+    get_some c.args.shard.now c.args.pass.now c.get.new.pass c.args.name.now c.in-Some.name c.args.from c.args.to c.in-Err-NoMemory.field-0 c.requires.rests same c.in-Err-NoMemory.ensures.refused

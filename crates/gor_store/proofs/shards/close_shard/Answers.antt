@@ -1,4 +1,4 @@
-use Rattle.std.proofs.Common.{rules, ℕ, ◌+◌, ◌<◌, length, ◌≡◌, sym, arith}
+use Rattle.std.proofs.Common.{rules, ◌+◌, length, ◌≡◌, sym, arith}
 use Rattle.gor_hall.specs.Halls.{start_of}
 use Rattle.gor_flush.specs.declared.part.Part.TheVariants as part
 use Rattle.gor_store.proofs.OpenShards.{begins_with_device}

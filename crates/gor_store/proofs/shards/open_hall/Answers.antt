@@ -1,4 +1,4 @@
-use Rattle.std.proofs.Common.{rules, ◌≡◌, ◌<◌, ◌+◌, List, [], length, sym, ap, subst, arith, ◌∙◌, slice_get}
+use Rattle.std.proofs.Common.{rules, ◌≡◌, List, [], length, sym, ap, subst, arith, ◌∙◌, slice_get}
 use Rattle.gor_model.specs.Objects.{objects}
 use Rattle.gor_model.specs.Starts.{IsStart}
 use Rattle.gor_model.specs.declared.start.Start.{Start}

@@ -1,4 +1,4 @@
-use Rattle.std.proofs.Common.{◌≡◌, sym, ap, subst, ◌∙◌}
+use Rattle.std.proofs.Common.{sym, ap, subst, ◌∙◌}
 use Rattle.gor_model.specs.declared.start.Start.{Start}
 use Rattle.gor_flush.specs.declared.device.Device.{Device}
 use Rattle.gor_flush.specs.Opening.{HoldsOn}

@@ -1,4 +1,4 @@
-use Rattle.std.proofs.Common.{◌≡◌, ◌≤◌, length, sym, subst, ap, inl, inr, refl, ◌∙◌, arith}
+use Rattle.std.proofs.Common.{◌≡◌, sym, subst, ap, inl, inr, refl, ◌∙◌, arith}
 use Rattle.std.specs.Prelude.{map}
 use Rattle.gor_text.specs.Workloads.{phase_lines, lines_in}
 use Rattle.gorilla.specs.Serving.{EndsBy}

@@ -1,4 +1,4 @@
-use Rattle.std.proofs.Common.{◌≡◌, subst}
+use Rattle.std.proofs.Common.{subst}
 use Rattle.gor_text.specs.Workloads.{IsFirstBad}
 use Rattle.gorilla.specs.TakenLines.{is_taken_item}
 use Rattle.gorilla.proofs.reading.read_workload.Goals as goal

@@ -1,4 +1,4 @@
-use Rattle.std.proofs.Common.{◌≡◌, drop}
+use Rattle.std.proofs.Common.{drop}
 use Rattle.std.specs.Prelude.{map}
 use Rattle.gor_text.specs.Workloads.{phase_lines}
 use Rattle.gorilla.proofs.PhaseSteps.{PhasesSoFar}

@@ -62,6 +62,6 @@ returns-clause-err g c =
     let s = c.args.self.now in
     let a = lanes_after s.hall (phase_lines c.args.phase.now) s.lanes.len s.lanes.items c.deref_mut.result.now c.run_phase.new.lanes s.lanes.ok.0 c.deref_mut.ensures.value c.run_phase.ensures.rests in
     on_err_weaker c.run_phase.result
-    (part_ran c.count_events-before.result _ s.lanes.items c.deref_mut.result.now c.run_phase.new.lanes _ s.closing c.requires.rests.eight
+    (part_ran (phase_lines c.args.phase.now) c.count_events-before.result _ s.lanes.items c.deref_mut.result.now c.run_phase.new.lanes _ s.closing c.requires.rests.eight
     (c.count_events-before.ensures ∙ ap (λ (lanes : List Lane). sum_by (λ (p : Pass). length (made p)) (passes_with lanes s.closing)) c.deref.ensures.value) c.deref_mut.ensures.value a.0)
     c.run_phase.ensures.err
