@@ -1,3 +1,4 @@
 pub mod FourSeries
 pub mod Gets
+pub mod Lanes
 pub mod Steps

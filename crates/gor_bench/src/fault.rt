@@ -5,7 +5,7 @@ use thiserror::Error;
 #[derive(Debug, Drop, Clone, Copy, PartialEq, Eq, Error)]
 pub enum Fault {
     /// A word names no part.
-    #[error("usage: gor_bench [codes|blocks|cell|table|recovery]...")]
+    #[error("usage: gor_bench [codes|blocks|cell|table|shard|recovery]...")]
     Words,
     /// There was no memory.
     #[error("no memory")]

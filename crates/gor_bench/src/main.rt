@@ -5,6 +5,7 @@
 //! - `blocks`: blocks, pushed and decoded.
 //! - `cell`: a day of a cell, put, copied and decoded.
 //! - `table`: a hall's take, mark and give, on one thread and on several.
+//! - `shard`: puts and gets through a shard, on one thread and on several.
 //! - `recovery`: what a shard's files hold, read back.
 //! - `words`: the four series of words that parts measure.
 //! - `report`: a table of figures, as it is printed.
@@ -24,6 +25,7 @@ mod laying;
 mod part;
 mod recovery;
 mod report;
+mod shard;
 mod table;
 mod words;
 

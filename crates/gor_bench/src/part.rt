@@ -1,6 +1,6 @@
 use crate::fault::Fault;
 use crate::report::Report;
-use crate::{blocks, cell, codes, recovery, table};
+use crate::{blocks, cell, codes, recovery, shard, table};
 use std::alloc::Global;
 use std::sync::Wait;
 use std::thread::Threads;
@@ -17,6 +17,8 @@ pub enum Part {
     Cell,
     /// `table`: a hall's take, mark and give.
     Table,
+    /// `shard`: puts and gets through a shard.
+    Shard,
     /// `recovery`: what a shard's files hold, read back.
     Recovery,
 }
@@ -29,6 +31,7 @@ impl Part {
             "blocks" => Some(Part::Blocks),
             "cell" => Some(Part::Cell),
             "table" => Some(Part::Table),
+            "shard" => Some(Part::Shard),
             "recovery" => Some(Part::Recovery),
             _ => None,
         }
@@ -45,6 +48,7 @@ impl Part {
             Part::Blocks => blocks::measure(rt, alloc),
             Part::Cell => cell::measure(rt, alloc),
             Part::Table => table::measure(rt, alloc),
+            Part::Shard => shard::measure(rt, alloc),
             Part::Recovery => recovery::measure(rt, alloc),
         }
     }

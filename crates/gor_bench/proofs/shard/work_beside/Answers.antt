@@ -1,0 +1,9 @@
+use Rattle.std.proofs.Common.{subst}
+use Rattle.gor_bench.specs.Lanes.{IsResting}
+use Rattle.gor_bench.specs.declared.shard.Lane.{Lane}
+use Rattle.gor_bench.proofs.shard.work_beside.Goals as goal
+
+pub returns-clause-resting : goal.returns-clause-resting
+returns-clause-resting g c i d low =
+    let turn = (c.for_each_mut.ensures i d low).1 in
+    subst (λ (lane : Lane). IsResting (g.S.HasShard.shard_of c.args.shared.now) lane.pass) turn.left turn.call
