@@ -5,7 +5,7 @@ use thiserror::Error;
 #[derive(Debug, Drop, Clone, Copy, PartialEq, Eq, Error)]
 pub enum Fault {
     /// A word names no part.
-    #[error("usage: gor_bench [codes|blocks|cell|table|shard|recovery]...")]
+    #[error("usage: gor_bench [codes|blocks|cell|table|shard|store|recovery]...")]
     Words,
     /// There was no memory.
     #[error("no memory")]
@@ -19,6 +19,9 @@ pub enum Fault {
     /// What was read back is not what was written, or an event is missing.
     #[error("what was measured is not what was asked for")]
     Wrong,
+    /// The folder of a store could not be made, or its disk failed.
+    #[error("the disk failed")]
+    Disk,
 }
 
 impl Fault {
@@ -30,6 +33,7 @@ impl Fault {
             Fault::Clock => 5,
             Fault::Output => 6,
             Fault::Wrong => 7,
+            Fault::Disk => 8,
         }
     }
 }

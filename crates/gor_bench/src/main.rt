@@ -6,10 +6,12 @@
 //! - `cell`: a day of a cell, put, copied and decoded.
 //! - `table`: a hall's take, mark and give, on one thread and on several.
 //! - `shard`: puts and gets through a shard, on one thread and on several.
+//! - `store`: the program's path, from a workload's text to the last flush.
 //! - `recovery`: what a shard's files hold, read back.
 //! - `words`: the four series of words that parts measure.
 //! - `report`: a table of figures, as it is printed.
 //! - `fault`: why nothing was measured.
+//! - `folder`: a folder as a disk that measures its syncs.
 //! - `first`: the values of a hall of four series.
 //! - `laying`: stores of many series on a disk in memory, laid down by the writers of their files.
 //!
@@ -21,11 +23,13 @@ mod cell;
 mod codes;
 mod fault;
 mod first;
+mod folder;
 mod laying;
 mod part;
 mod recovery;
 mod report;
 mod shard;
+mod store;
 mod table;
 mod words;
 
@@ -60,11 +64,12 @@ fn parts_named(rt: &HostRuntime) -> Result<Vec<Part>, Fault> {
 /// Measures each part in turn, and prints its figures.
 fn measure_all<R: Threads + Wait + Sync + Clock + Print>(
     rt: &R,
+    host: &HostRuntime,
     alloc: Global,
     parts: &[Part],
 ) -> Result<(), Fault> {
     for part in parts {
-        let report = part.measure(rt, alloc)?;
+        let report = part.measure(rt, host, alloc)?;
         if report.print(rt).is_err() {
             return Err(Fault::Output);
         }
@@ -74,7 +79,7 @@ fn measure_all<R: Threads + Wait + Sync + Clock + Print>(
 
 fn main(rt: HostRuntime) -> ExitCode {
     let done = match parts_named(&rt) {
-        Ok(parts) => measure_all(&rt, rt.alloc(), &parts),
+        Ok(parts) => measure_all(&rt, &rt, rt.alloc(), &parts),
         Err(fault) => Err(fault),
     };
     match done {

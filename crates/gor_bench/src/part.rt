@@ -1,6 +1,6 @@
 use crate::fault::Fault;
 use crate::report::Report;
-use crate::{blocks, cell, codes, recovery, shard, table};
+use crate::{blocks, cell, codes, recovery, shard, store, table};
 use std::alloc::Global;
 use std::sync::Wait;
 use std::thread::Threads;
@@ -19,6 +19,8 @@ pub enum Part {
     Table,
     /// `shard`: puts and gets through a shard.
     Shard,
+    /// `store`: the program's path.
+    Store,
     /// `recovery`: what a shard's files hold, read back.
     Recovery,
 }
@@ -32,15 +34,17 @@ impl Part {
             "cell" => Some(Part::Cell),
             "table" => Some(Part::Table),
             "shard" => Some(Part::Shard),
+            "store" => Some(Part::Store),
             "recovery" => Some(Part::Recovery),
             _ => None,
         }
     }
 
-    /// Measures it.
+    /// Measures it. What is measured on real files has them of the host.
     pub fn measure<R: Threads + Wait + Sync + Clock>(
         self,
         rt: &R,
+        host: &HostRuntime,
         alloc: Global,
     ) -> Result<Report, Fault> {
         match self {
@@ -49,6 +53,7 @@ impl Part {
             Part::Cell => cell::measure(rt, alloc),
             Part::Table => table::measure(rt, alloc),
             Part::Shard => shard::measure(rt, alloc),
+            Part::Store => store::measure(rt, host),
             Part::Recovery => recovery::measure(rt, alloc),
         }
     }
