@@ -19,7 +19,7 @@ pub enum Fault {
     /// What was read back is not what was written, or an event is missing.
     #[error("what was measured is not what was asked for")]
     Wrong,
-    /// The folder of a store could not be made, or its disk failed.
+    /// The disk of a store failed.
     #[error("the disk failed")]
     Disk,
 }

@@ -11,7 +11,7 @@
 //! - `words`: the four series of words that parts measure.
 //! - `report`: a table of figures, as it is printed.
 //! - `fault`: why nothing was measured.
-//! - `folder`: a folder as a disk that measures its syncs.
+//! - `timed`: a disk that measures its syncs.
 //! - `first`: the values of a hall of four series.
 //! - `laying`: stores of many series on a disk in memory, laid down by the writers of their files.
 //!
@@ -23,7 +23,6 @@ mod cell;
 mod codes;
 mod fault;
 mod first;
-mod folder;
 mod laying;
 mod part;
 mod recovery;
@@ -31,6 +30,7 @@ mod report;
 mod shard;
 mod store;
 mod table;
+mod timed;
 mod words;
 
 use fault::Fault;

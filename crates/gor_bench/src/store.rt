@@ -6,10 +6,11 @@ ghost use Rattle.gor_text.specs.Workloads.{phase_lines};
 ghost use Rattle.gor_bench.specs.Puts.{ArePuts, IsSmall};
 
 use crate::fault::Fault;
-use crate::folder::TimedFolder;
 use crate::report::{Report, Row, nanos_since, now};
+use crate::timed::TimedDisk;
 use crate::words::{Kind, Series};
 use gor_disk::Disk;
+use gor_folder::{FolderDisk, shard_disk};
 use gor_model::Reply;
 use gor_outside::NoPause;
 use gor_store::Store;
@@ -173,16 +174,17 @@ fn stored_in(told: &[LaneAnswer]) -> u64 {
     stored
 }
 
-/// The disks of a store, of which the first alone is called.
+/// The disks of a store in a folder, of which the first alone is called, each with the time that its syncs take.
 fn disks_in(
     host: &HostRuntime,
-    folder: &'static str,
-) -> Result<Vec<TimedFolder<HostRuntime>>, AllocError>
+    folder: &str,
+) -> Result<Vec<TimedDisk<FolderDisk<HostRuntime>, HostRuntime>>, AllocError>
     ensures { IfOk result (λ disks. length disks.items ≡ 16) }
 {
     let mut disks = Vec::new(host.alloc());
-    for _shard in 0..16u32 {
-        disks.push(TimedFolder::new(host.clone()?, folder))?;
+    for shard in 0..16u32 {
+        let disk = shard_disk(host, folder, shard)?;
+        disks.push(TimedDisk::new(disk, host.clone()?))?;
     }
     Ok(disks)
 }
@@ -196,7 +198,7 @@ struct Run {
     syncs: u64,
 }
 
-/// Runs a text on a new store in a folder that is empty. The disks keep handles of the host, since a handle of which only
+/// Runs a text on a new store in a folder that is not there. The disks keep handles of the host, since a handle of which only
 /// bounds are known may not go with its disk to another thread.
 fn run_text<R: Threads + Wait + Sync>(
     rt: &R,
@@ -216,8 +218,8 @@ fn run_text<R: Threads + Wait + Sync>(
         Some(disk) if stored_in(&ended.told) == PUTS as u64 => Ok(Run {
             whole,
             reading,
-            syncing: disk.nanos,
-            syncs: disk.syncs,
+            syncing: disk.nanos(),
+            syncs: disk.syncs(),
         }),
         _ => Err(Fault::Wrong),
     }
@@ -230,9 +232,6 @@ fn run_in_folder<R: Threads + Wait + Sync>(
     text: &[u8],
 ) -> Result<Run, Fault> {
     let _ = fs::remove_dir_all(host, FOLDER);
-    if fs::create_dir_all(host, FOLDER).is_err() {
-        return Err(Fault::Disk);
-    }
     let run = run_text(rt, host, text);
     let _ = fs::remove_dir_all(host, FOLDER);
     run

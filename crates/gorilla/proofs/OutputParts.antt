@@ -1,8 +1,7 @@
 -- A text that is written piece by piece.
-use Rattle.std.proofs.Common.{◌≡◌, ℕ, List, [], ◌++◌, take, drop, Option, refl, sym, ap, subst, ◌∙◌, append_assoc, append-nil, take-append-drop}
+use Rattle.std.proofs.Common.{◌≡◌, ℕ, List, [], ◌++◌, take, drop, Option, refl, sym, ap, ◌∙◌, append_assoc, take-append-drop}
 use Rattle.std.specs.Io.KnownBytes.{Appends}
 use Rattle.gorilla.proofs.KnownParts.{grown_by_none, grown_twice}
-use Rattle.gorilla.specs.Outputs.{AppendsPart}
 
 -- a front of the text was written, and the rest is left
 pub record WrittenSoFar (before after : Option (List ℕ)) (faults_before faults_after : ℕ) (text rest : List ℕ) : Type 0 where
@@ -22,10 +21,3 @@ goes_on before after later faults now then text rest count w took same = record 
   written = grown_twice before after later w.front (take count rest) w.written took;
   quiet = same ∙ w.quiet;
 }
-
-pub all_written : (before after : Option (List ℕ)) (faults now : ℕ) (text rest : List ℕ) → WrittenSoFar before after faults now text rest → rest ≡ [] → Appends before after text
-all_written before after faults now text rest w none =
-    subst (Appends before after) (sym (w.parted ∙ (ap (λ (r : List ℕ). w.front ++ r) none ∙ append-nil w.front))) w.written
-
-pub part_written : (before after : Option (List ℕ)) (faults now : ℕ) (text rest : List ℕ) → WrittenSoFar before after faults now text rest → ¬ (rest ≡ []) → AppendsPart before after text
-part_written before after faults now text rest w left = record { front = w.front; rest = rest; parted = w.parted; left = left; written = w.written }

@@ -4,8 +4,6 @@
 
 pub mod dump;
 mod dump_text;
-mod file_name;
-mod folder_disk;
 mod input;
 pub mod outcome;
 mod output;
@@ -30,7 +28,7 @@ mod tests_stops;
 mod words;
 
 use dump::dump;
-use folder_disk::store_disks;
+use gor_folder::store_disks;
 use gor_outside::NoPause;
 use program::run;
 use status::Status;

@@ -1,7 +1,7 @@
 ghost use Rattle.std.specs.Prelude.{◌≡◌};
 ghost use Rattle.gorilla.specs.Statuses.{number_of};
 
-use crate::file_name::FileName;
+use gor_folder::FileName;
 use gor_image::{DamageKind, ImageFault};
 use std::fmt;
 

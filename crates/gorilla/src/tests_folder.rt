@@ -1,89 +1,17 @@
-// A folder as a disk, and runs and dumps of a store in folders.
-ghost use Rattle.std.specs.Prelude.{◌≡◌, length};
+// Runs and dumps of a store in folders.
+ghost use Rattle.std.specs.Prelude.{◌≡◌, length, None};
 
 use crate::dump::dump;
-use crate::folder_disk::{FolderDisk, store_disks};
 use crate::program::run;
 use crate::status::Status;
 use crate::tests::words_of;
 use crate::tests_dump::{KEYS, LOG, MARKS, TEXT, write_store};
-use gor_disk::{Disk, DiskFailed, FileId};
-use gor_outside::{MemorySink, MemorySource, NoPause};
+use gor_folder::{FolderDisk, shard_disk, store_disks};
+use gor_outside::{Failed, MemorySink, MemorySource, NoPause, Sink};
 use std::fs;
 use std::sync::Wait;
 use std::test::Fail;
 use std::thread::Threads;
-
-/// A disk that another thread may be given.
-fn sendable<D: Disk + Send>(disk: D) -> D {
-    disk
-}
-
-/// The disk of a folder.
-fn disk_of(rt: &HostRuntime, folder: &str) -> Result<FolderDisk<HostRuntime>, Fail> {
-    let folder = String::from_str(rt.alloc(), folder)?;
-    Ok(sendable(FolderDisk::new(rt.clone()?, folder)))
-}
-
-#[test]
-fn a_folder_is_a_disk(rt: HostRuntime) -> Result<(), Fail> {
-    let folder = "folder_of_a_test/shard.0";
-    let _ = fs::remove_dir_all(&rt, "folder_of_a_test");
-    let mut disk = disk_of(&rt, folder)?;
-    let log = FileId::Log(3);
-    // Nothing but a write makes the folder.
-    assert_eq!(rt; disk.len(log)?, 0);
-    let mut none = [0u8; 0];
-    disk.read_at(log, 0, &mut none)?;
-    disk.cut(log, 0)?;
-    disk.sync(log)?;
-    assert!(rt; !fs::exists(&rt, "folder_of_a_test")?);
-    disk.write_at(log, 0, b"abcdef")?;
-    disk.write_at(log, 2, b"XY")?;
-    disk.write_at(log, 6, b"g")?;
-    disk.sync(log)?;
-    assert_eq!(rt; disk.len(log)?, 7);
-    assert_eq!(rt; disk.len(FileId::Keys(3))?, 0);
-    disk.cut(log, 5)?;
-    assert_eq!(rt; disk.len(log)?, 5);
-    let mut bytes = [0u8; 4];
-    disk.read_at(log, 1, &mut bytes)?;
-    assert_eq!(rt; bytes, *b"bXYe");
-    // What lies past the end is not read, and no file grows past its greatest length.
-    assert!(rt; disk.read_at(log, 3, &mut bytes) == Err(DiskFailed));
-    assert!(rt; disk.write_at(log, 9_223_372_036_854_775_807, b"z") == Err(DiskFailed));
-    assert_eq!(rt; disk.len(log)?, 5);
-    // Another value reads what this one wrote.
-    let mut again = disk_of(&rt, folder)?;
-    let mut whole = [0u8; 5];
-    assert_eq!(rt; again.len(log)?, 5);
-    again.read_at(log, 0, &mut whole)?;
-    assert_eq!(rt; whole, *b"abXYe");
-    fs::remove_dir_all(&rt, "folder_of_a_test")?;
-    Ok(())
-}
-
-#[test]
-fn files_have_their_names(rt: HostRuntime) -> Result<(), Fail> {
-    let _ = fs::remove_dir_all(&rt, "names_of_a_test");
-    let mut disk = disk_of(&rt, "names_of_a_test")?;
-    for (file, path, bytes) in [
-        (FileId::Marks, "names_of_a_test/marks", b"m".as_slice()),
-        (FileId::Keys(0), "names_of_a_test/keys.0", b"keys"),
-        (FileId::Log(12), "names_of_a_test/log.12", b"log"),
-        (
-            FileId::Block(596_522),
-            "names_of_a_test/block.596522",
-            b"of",
-        ),
-    ] {
-        assert!(rt; !fs::exists(&rt, path)?);
-        disk.write_at(file, 0, bytes)?;
-        assert_eq!(rt; fs::read(&rt, path)?.as_slice(), bytes);
-    }
-    fs::remove_dir_all(&rt, "names_of_a_test")?;
-    Ok(())
-}
 
 /// How a dump of the store in a folder ends, and what it writes.
 fn dumped(rt: &HostRuntime, store: &str) -> Result<(Status, Vec<u8>), Fail> {
@@ -167,7 +95,7 @@ fn a_store_in_folders_is_dumped(rt: HostRuntime) -> Result<(), Fail> {
     assert_eq!(rt; status, Status::Ok);
     assert_eq!(rt; held.len(), 0);
     assert!(rt; !fs::exists(&rt, "store_of_a_test")?);
-    let mut first = disk_of(&rt, "store_of_a_test/shard.0")?;
+    let mut first = shard_disk(&rt, "store_of_a_test", 0)?;
     write_store(&mut first, &MARKS, &KEYS, &LOG)?;
     let (status, held) = dumped(&rt, "store_of_a_test")?;
     assert_eq!(rt; status, Status::Ok);
@@ -180,5 +108,59 @@ fn a_store_in_folders_is_dumped(rt: HostRuntime) -> Result<(), Fail> {
     assert_eq!(rt; status, Status::DeviceFault { shard: 0 });
     assert_eq!(rt; held.len(), 0);
     fs::remove_dir_all(&rt, "store_of_a_test")?;
+    Ok(())
+}
+
+/// A sink that notes at each write how many bytes a file has, and fails where it is absent.
+#[derive(Drop)]
+struct Watcher {
+    rt: HostRuntime,
+    file: &'static str,
+    lengths: Vec<u64>,
+    faults: u64,
+}
+
+impl Sink for Watcher {
+    ghost held = { λ _. None };
+
+    ghost faults = { λ s. s.faults };
+
+    fn write(&mut self, piece: &[u8]) -> Result<usize, Failed> {
+        if let Ok(found) = fs::metadata(&self.rt, self.file)
+            && self.lengths.push(found.len()).is_ok()
+        {
+            return Ok(piece.len());
+        }
+        self.faults = self.faults.saturating_add(1);
+        Err(Failed)
+    }
+}
+
+#[test]
+fn a_flush_is_in_the_folder_before_it_is_told(rt: HostRuntime) -> Result<(), Fail> {
+    let (alloc, store) = (rt.alloc(), "watched_of_a_test");
+    let _ = fs::remove_dir_all(&rt, store);
+    let input =
+        b"0 put a 10 0000000000000001\n0 flush 0\njoin\n0 put a 70 0000000000000002\n0 flush 0\n";
+    let mut source = MemorySource::new(input.to_vec(alloc)?, 1000, Vec::new(alloc));
+    let mut sink = Watcher {
+        rt: rt.clone()?,
+        file: "watched_of_a_test/shard.0/log.0",
+        lengths: Vec::new(alloc),
+        faults: 0,
+    };
+    let words = words_of(alloc, "run --shards 1")?;
+    let outcome = run(
+        &rt,
+        &words,
+        &mut source,
+        &mut sink,
+        store_disks(&rt, store)?,
+        &NoPause,
+    );
+    assert_eq!(rt; outcome.status, Status::Ok);
+    // The first gate has a byte. Each flush adds a length of 8, a batch of one put of 17 and 21, and a gate.
+    assert_eq!(rt; sink.lengths.as_slice(), [48u64, 95].as_slice());
+    fs::remove_dir_all(&rt, store)?;
     Ok(())
 }
