@@ -9,10 +9,6 @@ use Rattle.gor_bits.proofs.ByteBits.{length-bits_of, bits_of-append, bits_of-tak
 zeros : ℕ → List Bool
 zeros n = replicate n false
 
-length-zeros : (n : ℕ) → length (zeros n) ≡ n
-unfolding zeros
-length-zeros n = length-replicate {A = Bool} n false
-
 -- the bytes have a place for each bit
 pub packed_within : (bits : List Bool) (bytes : List ℕ) → IsPacked bits bytes → length bits ≤ 8 * length bytes
 packed_within bits bytes p =

@@ -14,7 +14,7 @@ use Rattle.gor_times.specs.Times.{IsNext}
 use Rattle.gor_block.specs.Marks.{PointMark, mark_of, mark_after, first_mark, next_code, IsNextPoint, IsChain}
 use Rattle.gor_block.specs.Decoded.{decoded, IsHeld, IsRead}
 use Rattle.gor_block.specs.PointBlock.{PointBlock, IsBlock, MayFollow, followed}
-use Rattle.gor_block.proofs.Finding.{begins_as, begins_whole, reaches}
+use Rattle.gor_block.proofs.Finding.{begins_as, begins_whole}
 use Rattle.gor_block.proofs.Lists.{reverse-more, all_reverse, each_reverse, before_more, last_of-more}
 use Rattle.gor_block.proofs.MarkLaws.{mark_unit, mark_window, mark_of-none, few_points, good_of}
 use Rattle.gor_block.proofs.CodeLaws.{bits_more}
@@ -203,7 +203,3 @@ held_of_read u w count bits at m limit r = held_of u w (decoded u w count bits) 
 pub found_of_read : (u : TimeUnit) (w count : ℕ) (bits : List Bool) (at : ℕ) (m : PointMark) → w ≤ last_window → IsRead u w count bits at m → decoded u w count (take at bits) ≡ decoded u w count bits
 found_of_read u w count bits at m limit r =
     ap (λ n. decoded u w n (take at bits)) (sym (length-decoded u w count bits)) ∙ found_of u w (decoded u w count bits) (take at bits) m (code_of_read u w count bits at m limit r)
-
--- the code that was read ends within the bits
-pub read_within : (u : TimeUnit) (w count : ℕ) (bits : List Bool) (at : ℕ) (m : PointMark) → IsRead u w count bits at m → at ≤ length bits
-read_within u w count bits at m r = omega (arith, r.place, reaches _ bits r.whole.begins)

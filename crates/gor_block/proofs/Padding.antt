@@ -1,7 +1,7 @@
 -- The bits behind a code.
-use Rattle.std.proofs.Common.{◌≡◌, ℕ, zero, suc, ◌+◌, ◌-◌, ◌%◌, ◌<◌, ◌≤◌, List, [], ◌∷◌, ◌++◌, length, take, drop, replicate, Bool, true, false, refl, ap, ap₂, sym, ◌∙◌, arith, length-drop}
+use Rattle.std.proofs.Common.{◌≡◌, ℕ, zero, suc, ◌+◌, ◌-◌, ◌%◌, ◌<◌, ◌≤◌, List, [], ◌∷◌, ◌++◌, length, take, drop, replicate, Bool, true, false, ap, ap₂, sym, ◌∙◌, arith}
 use Rattle.std.specs.Prelude.{nat_eq}
-use Rattle.std.proofs.lemmas.List.{replicate-append-replicate, take_all, take-append-drop, drop-drop, drop-replicate}
+use Rattle.std.proofs.lemmas.List.{replicate-append-replicate, take-append-drop, drop-drop, drop-replicate}
 use Rattle.std.proofs.Math.Seq.{drop-append_seam}
 use Rattle.gor_bits.specs.Spelled.{spelled}
 use Rattle.gor_bits.proofs.Pieces.{seen_twice}
@@ -10,9 +10,6 @@ use Rattle.gor_block.specs.Faults.{IsFirstSet, IsPadded}
 pub one_bit : (b : ℕ) → b < 2 → spelled 1 b ≡ nat_eq b 1 ∷ []
 unfolding spelled
 one_bit b small = ap (λ k. nat_eq k 1 ∷ []) (let e : b % 2 ≡ b = omega arith in e)
-
-pub zeros_none : (bits : List Bool) (at : ℕ) → take (at - at) (drop at bits) ≡ replicate (at - at) false
-zeros_none bits at = let e : at - at ≡ 0 = omega arith in rw e refl
 
 pub zeros_more : (bits : List Bool) (at place : ℕ) → at ≤ place → take (place - at) (drop at bits) ≡ replicate (place - at) false → take 1 (drop place bits) ≡ false ∷ [] →
     take (place + 1 - at) (drop at bits) ≡ replicate (place + 1 - at) false
@@ -25,9 +22,6 @@ zeros_more bits at place up zeros one =
     ∙ ap₂ (λ (xs ys : List Bool). xs ++ ys) zeros (ap (λ k. take 1 (drop k bits)) here ∙ one)
     ∙ replicate-append-replicate n 1 false
     ∙ ap (λ k. replicate k false) (sym more)
-
-pub zeros_all : (bits : List Bool) (at : ℕ) → take (length bits - at) (drop at bits) ≡ replicate (length bits - at) false → drop at bits ≡ replicate (length bits - at) false
-zeros_all bits at zeros = sym (take_all (length bits - at) (drop at bits) (omega (arith, length-drop at bits))) ∙ zeros
 
 -- where all bits left are zero, none is the first set one
 pub padded_apart : (bits : List Bool) (end at : ℕ) → IsPadded bits end → IsFirstSet bits end at → ⊥

@@ -13,11 +13,6 @@ copies_one first last b c xs e s = rw e (map-append bare xs (c ∷ []) ∙ ap (�
     same : IsSame c b → bare c ≡ bare b
     same s = (cc (s.unit, s.window, s.points))
 
--- copies of some blocks, and then of more
-pub copies_more : (xs ys : List PointBlock) (old mid new : List PointBlock) → AddsCopies xs old mid → AddsCopies ys mid new → AddsCopies (xs ++ ys) old new
-copies_more xs ys old mid new a b =
-    b ∙ (ap (λ l. l ++ map bare ys) a ∙ (append_assoc (map bare old) (map bare xs) (map bare ys) ∙ ap (λ l. map bare old ++ l) (sym (map-append bare xs ys))))
-
 -- what was copied, and what is left to copy, are all
 pub record Pending (first last : ℕ) (all old rest now : List PointBlock) : Type 0 where
   pub are : map bare now ++ map bare (chosen first last rest) ≡ map bare old ++ map bare (chosen first last all)

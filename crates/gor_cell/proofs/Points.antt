@@ -57,11 +57,6 @@ later_last_some places later t e = ap last_time (points_both (standing places) l
 pub later_last_none : (places : List (Option PointBlock)) (later : List PointBlock) → last_time (points_in later) ≡ None → last_time (points_in (standing places ++ later)) ≡ last_time (points_in (standing places))
 later_last_none places later e = ap last_time (points_both (standing places) later) ∙ (time_behind (points_in (standing places)) (points_in later) ∙ ap (λ o. option_or o (last_time (points_in (standing places)))) e)
 
--- a list with a last time has an element, and one with none has not
-pub no_time : (ps : List Point) → last_time ps ≡ None → ps ≡ []
-no_time [] e = refl
-no_time (p ∷ ps) e = cc
-
 -- where the last block has a point, its last is the last of all
 pub last_point : (xs : List PointBlock) (b : PointBlock) → last_of xs ≡ Some b → 1 ≤ length b.points → last_of (points_in xs) ≡ last_of b.points
 last_point [] b e h = cc

@@ -1,5 +1,5 @@
 -- Lists of slots, none of which stands twice.
-use Rattle.std.proofs.Common.{◌≡◌, ℕ, ◌+◌, ◌<◌, ◌≤◌, ◌≢◌, ◌⊎◌, inl, inr, List, [], ◌∷◌, ◌++◌, zero, suc, map, length, ◌-◌, reverse, drop, drop-cons, Bool, true, false, cond, refl, sym, ap, subst, ◌∙◌, arith, append_assoc}
+use Rattle.std.proofs.Common.{◌≡◌, ℕ, ◌+◌, ◌<◌, ◌≤◌, ◌≢◌, ◌⊎◌, inl, inr, List, [], ◌∷◌, ◌++◌, zero, suc, map, length, ◌-◌, reverse, Bool, true, false, cond, refl, sym, ap, subst, ◌∙◌, arith, append_assoc}
 use Rattle.std.specs.Prelude.{nat_eq, filter, slice_index, remove}
 use Rattle.std.specs.List.{IsDistinct, AllByRecursion, range_with_len}
 use Rattle.std.specs.List.Sorted.{IsPermutation}
@@ -128,13 +128,6 @@ filter-reverse p (x ∷ xs) =
       at false is = rw is (sym (append-nil (reverse (filter p xs))))
 
 -- ---- a slot sought and taken out
-
-pub seen_more : (slots : List ℕ) (at slot : ℕ) → at < length slots → slice_index slots at ≢ slot → filter (is_apart slot) (drop (at + 1) slots) ≡ drop (at + 1) slots
-    → filter (is_apart slot) (drop at slots) ≡ drop at slots
-seen_more slots at slot within other seen =
-    let split : drop at slots ≡ slice_index slots at ∷ drop (at + 1) slots = grind (arith, drop-cons) in
-    let off : nat_eq (slice_index slots at) slot ≡ false = differ (slice_index slots at) slot other in
-    rw (split, off) (ap (λ l. slice_index slots at ∷ l) seen)
 
 all_apart : (s : ℕ) (xs : List ℕ) → AllByRecursion (λ y. nat_eq s y ≡ false) xs → filter (is_apart s) xs ≡ xs
 all_apart s [] all = refl

@@ -120,13 +120,6 @@ kept-less old new key slot free capacity more loses kept grown =
       room = omega arith;
     }
 
--- the pool has room for a slot that comes back
-pub room-less : (old new : List Entry) (key : List ℕ) (slot : ℕ) (free : List ℕ) (capacity : ℕ) → LosesRow old key slot new → IsKept old free capacity → length free < capacity
-room-less old new key slot free capacity loses kept =
-    let short : length new + 1 ≡ length old = let long = length_permutation old (loses.row ∷ new) loses.rest in omega arith in
-    let room = kept.room in
-    omega arith
-
 pub shown-slot : (old : Listing) (new : List Entry) (key : List ℕ) (slot : ℕ) → LosesRow old.rows key slot new → IsDistinct bytes_eq (keys_of (keyed old.rows))
     → option_map (λ (row : Entry). row.slot) ((shown old).entry key) ≡ Some slot
 unfolding shown

@@ -1,7 +1,6 @@
 -- Files by their names.
-use Rattle.std.proofs.Common.{◌≡◌, ◌≢◌, ◌⊎◌, ℕ, suc, ◌+◌, ◌<◌, ◌≤◌, ◌==◌, Bool, true, false, if◌then◌else◌, List, [], ◌∷◌, ◌++◌, length, drop, get_or, refl, sym, ◌∙◌, ap, arith, inl, inr, ⊎_elim}
+use Rattle.std.proofs.Common.{◌≡◌, ◌≢◌, ◌⊎◌, ℕ, suc, ◌<◌, ◌≤◌, ◌==◌, Bool, true, false, if◌then◌else◌, List, [], ◌∷◌, ◌++◌, length, refl, sym, ◌∙◌, ap, arith, inl, inr, ⊎_elim}
 use Rattle.std.proofs.Math.ListN.{set}
-use Rattle.std.proofs.lemmas.List.{drop_more}
 use Rattle.std.proofs.lemmas.Bool.Decides.{nat_tests}
 use Rattle.gor_disk.specs.declared.disk.FileId.{FileId}
 use Rattle.gor_disk.specs.declared.disk.FileId.TheVariants.{Marks, Keys, Log, Block}
@@ -46,27 +45,6 @@ differs a b apart = told (same_file a b) refl
     told : (v : Bool) → same_file a b ≡ v → same_file a b ≡ false
     told true is = absurd (apart (same_is a b is))
     told false is = is
-
--- one step of a search
-pub place_here : (files : List File) (i : ℕ) (file : File) (name : FileId) → file ≡ get_or files i file → i < length files → same_file name file.name ≡ true → place (drop i files) name ≡ 0
-place_here files i file name is within same =
-    let there : drop i files ≡ file ∷ drop (i + 1) files = drop_more files i file within ∙ ap (λ (f : File). f ∷ drop (i + 1) files) (sym is) in
-    ap (λ (l : List File). place l name) there ∙ ap (λ (b : Bool). if b then 0 else suc (place (drop (i + 1) files) name)) same
-
-pub place_on : (files : List File) (i : ℕ) (file : File) (name : FileId) → file ≡ get_or files i file → i < length files → same_file name file.name ≡ false → place (drop i files) name ≡ suc (place (drop (i + 1) files) name)
-place_on files i file name is within same =
-    let there : drop i files ≡ file ∷ drop (i + 1) files = drop_more files i file within ∙ ap (λ (f : File). f ∷ drop (i + 1) files) (sym is) in
-    ap (λ (l : List File). place l name) there ∙ ap (λ (b : Bool). if b then 0 else suc (place (drop (i + 1) files) name)) same
-
-pub contents_here : (files : List File) (i : ℕ) (file : File) (name : FileId) → file ≡ get_or files i file → i < length files → same_file name file.name ≡ true → contents (drop i files) name ≡ file.bytes.items
-contents_here files i file name is within same =
-    let there : drop i files ≡ file ∷ drop (i + 1) files = drop_more files i file within ∙ ap (λ (f : File). f ∷ drop (i + 1) files) (sym is) in
-    ap (λ (l : List File). contents l name) there ∙ ap (λ (b : Bool). if b then file.bytes.items else contents (drop (i + 1) files) name) same
-
-pub contents_on : (files : List File) (i : ℕ) (file : File) (name : FileId) → file ≡ get_or files i file → i < length files → same_file name file.name ≡ false → contents (drop i files) name ≡ contents (drop (i + 1) files) name
-contents_on files i file name is within same =
-    let there : drop i files ≡ file ∷ drop (i + 1) files = drop_more files i file within ∙ ap (λ (f : File). f ∷ drop (i + 1) files) (sym is) in
-    ap (λ (l : List File). contents l name) there ∙ ap (λ (b : Bool). if b then file.bytes.items else contents (drop (i + 1) files) name) same
 
 pub choose_true : (b : Bool) (x y : List ℕ) → b ≡ true → (if b then x else y) ≡ x
 choose_true b x y is = ap (λ (v : Bool). if v then x else y) is

@@ -32,9 +32,6 @@ no_change file after v = record {
   other_bytes = λ f apart. refl;
 }
 
-pub no_look : (file : FileId) (v : DiskView) → Looks file v v
-no_look file v = record { changes = no_change file (held_now v file) v; done = record { held = refl; seen = refl } }
-
 module _ (first files new_files : List File) (calls : List DiskCall) (kept : List Bytes) (call : DiskCall) (bytes : Bytes) (same : length calls ≡ length kept) where
   abbrev pub before : DiskView
   before = memory_view first files calls kept

@@ -1,12 +1,12 @@
 -- A fresh store is begun.
-use Rattle.std.proofs.Common.{◌≡◌, ◌≢◌, ⊎_elim, inl, inr, ◌⊎◌, ℕ, ◌+◌, ◌<◌, ◌≤◌, List, [], ◌∷◌, Bool, true, false, refl, sym, ◌∙◌, ap, subst, arith, length}
+use Rattle.std.proofs.Common.{◌≡◌, ◌≢◌, ⊎_elim, inl, inr, ◌⊎◌, ℕ, ◌+◌, ◌<◌, ◌≤◌, List, [], ◌∷◌, true, false, refl, sym, ◌∙◌, ap, subst, arith}
 use Rattle.std.specs.Prelude.{Ok}
 use Rattle.std.proofs.lemmas.Bool.{cases_lt}
 use Rattle.gor_disk.specs.declared.disk.FileId.{FileId}
 use Rattle.gor_disk.specs.declared.disk.FileId.TheVariants.{Marks, Keys, Log, Block}
 use Rattle.gor_disk.specs.Disk.{DiskView, Contents, IsImage, IsSettled, NothingPending, Touches, Runs, held_now}
 use Rattle.gor_gate.specs.Gates.{Walk, gates, IsClosed, IsOldOrNew, pushed}
-use Rattle.gor_gate.specs.Places.{Place, IsRead, IsEnsured}
+use Rattle.gor_gate.specs.Places.{Place, IsEnsured}
 use Rattle.gor_gate.proofs.Ensured.{closed_if_ready, stays_settled}
 use Rattle.gor_marks.specs.declared.mark.Mark.TheVariants.{Home}
 use Rattle.gor_marks.specs.Spelling.{InLimits, spelling}
@@ -24,7 +24,7 @@ use Rattle.gor_flush.specs.Steps.{Leaves, IsGone, GoesOn, Keeps}
 use Rattle.gor_flush.specs.Opening.{AreFiles, AreEnsured, AreWhole, Begins, HasEmptyFirst, IsAtRest, IsBegun, IsSameStore, IsUnmarked, is_current, is_first}
 use Rattle.gor_flush.proofs.Ensures.{as_seen, IsThis, This, Another, is_this}
 use Rattle.gor_flush.proofs.Kept.{back_image, put_back}
-use Rattle.gor_flush.proofs.Steps.{leaves_settled, leaves_goes, gone_settled, goes_then, keeps_then, reads_goes, reads_keep, runs_goes, runs_keep, same_contents}
+use Rattle.gor_flush.proofs.Steps.{leaves_goes, goes_then, keeps_then, reads_goes, reads_keep, runs_goes, runs_keep, same_contents}
 
 -- ---- the first files are emptied
 
@@ -37,20 +37,6 @@ clearing_keeps old new stays leaves all k image low high is = ⊎_elim
     (all old.moment (put_back is_first old.seen image) (omega arith) (omega arith) (back_image is_first old stays image (λ f out. subst (λ h. IsImage h (image f)) (leaves.others k f out late high) (is f)))))
     (λ (early : k ≤ old.moment). all k image low early (λ f. subst (λ h. IsImage h (image f)) (leaves.past k f early) (is f)))
     (cases_lt old.moment k)
-
-pub first_settled : (old new : DiskView) → NothingPending old → Leaves is_first old new → IsGone (Keys 0) new → IsGone (Log 0) new → NothingPending new
-first_settled old new pending leaves keys log f = at f (is_first f) refl where
-  at : (x : FileId) (b : Bool) → is_first x ≡ b → IsSettled new x
-  at x false e = leaves_settled is_first old new leaves x e (pending x)
-  at Marks true e = absurd (let both : false ≡ true = e in cc)
-  at (Keys k) true e = let it : 0 ≡ k = grind arith in subst (λ n. IsSettled new (Keys n)) it (gone_settled (Keys 0) new keys)
-  at (Log l) true e = let it : 0 ≡ l = grind arith in subst (λ n. IsSettled new (Log n)) it (gone_settled (Log 0) new log)
-  at (Block w) true e = absurd (let both : false ≡ true = e in cc)
-
-pub still_read : (gated : Place) (old new : DiskView) → gated.file ≡ Marks → Leaves is_first old new → IsRead gated old → IsRead gated new
-still_read gated old new named leaves read =
-    let same : new.seen gated.file ≡ old.seen gated.file = leaves.other_bytes gated.file (ap is_first named) in
-    record { whole = ap (λ b. (gates b).whole) same ∙ read.whole; end = ap (λ b. (gates b).end) same ∙ read.end; len = ap length same ∙ read.len }
 
 empty_whole : (bytes : List ℕ) → bytes ≡ [] → (gates bytes).whole ≡ true
 unfolding gates

@@ -3,13 +3,12 @@ use Rattle.std.proofs.Common.{◌≡◌, ℕ, ◌+◌, ◌<◌, ◌≤◌, List,
 use Rattle.std.specs.Prelude.{nat_le, nat_lt, ◌&&◌, ◌||◌, ⊤}
 use Rattle.std.specs.List.{list_any}
 use Rattle.std.specs.Cmp.Derive.{both_true}
-use Rattle.std.proofs.lemmas.Bool.{cases_lt, eq-eqb, le-leb, lt-ltb}
+use Rattle.std.proofs.lemmas.Bool.{cases_lt, le-leb, lt-ltb}
 use Rattle.std.proofs.lemmas.List.Folds.{list_any_more}
 use Rattle.gor_disk.specs.declared.disk.FileId.{FileId}
 use Rattle.gor_disk.specs.declared.disk.FileId.TheVariants.{Marks, Keys, Log, Block}
 use Rattle.gor_disk.specs.Disk.{DiskView, Touches}
 use Rattle.gor_marks.specs.declared.mark.Mark.{Mark}
-use Rattle.gor_marks.specs.declared.mark.Mark.TheVariants.{Sealed}
 use Rattle.gor_flush.specs.Steps.{Leaves, IsGone}
 use Rattle.gor_flush.specs.Dropping.{is_log_in, is_block_of, drops}
 use Rattle.gor_flush.proofs.Steps.{from_touches, leaves_gone, leaves_more}
@@ -37,11 +36,6 @@ log_gone first log old new so_far touches gone l low high = ⊎_elim
     (cases_lt l log)
 
 -- ---- block files
-
-pub block_touched : (before window w k u f : ℕ) (old new : DiskView) → before < w + 12 → w + 12 ≤ window → Touches (Block w) (λ bytes. ⊤) old new → Leaves (is_block_of before window (Sealed w k u f ∷ [])) old new
-block_touched before window w k u f old new low high touches =
-    let a : drops before window w (Sealed w k u f) ≡ true = both_true (eq-eqb w w refl) (both_true (lt-ltb before (w + 12) low) (le-leb (w + 12) window high)) in
-    from_touches (is_block_of before window (Sealed w k u f ∷ [])) (Block w) (λ bytes. ⊤) old new (ap (λ b. b || false) a) touches
 
 abbrev pub BlocksGone : ℕ → ℕ → List Mark → DiskView → Type 0
 BlocksGone before window marks disk = (v : ℕ) → list_any (drops before window v) marks ≡ true → IsGone (Block v) disk

@@ -1,5 +1,5 @@
 -- The files that a mark replaces.
-use Rattle.std.proofs.Common.{◌≡◌, ℕ, ◌+◌, ◌-◌, ◌<◌, ◌≤◌, List, [], ◌∷◌, ◌++◌, Bool, true, false, refl, sym, ◌∙◌, ap, subst, arith, length, length-append, ⊎_elim}
+use Rattle.std.proofs.Common.{◌≡◌, ℕ, ◌+◌, ◌-◌, ◌<◌, ◌≤◌, List, [], ◌∷◌, ◌++◌, Bool, true, false, refl, sym, ◌∙◌, ap, arith, length, length-append, ⊎_elim}
 use Rattle.std.specs.Prelude.{nat_eq, nat_le, nat_lt, ◌&&◌, ◌||◌, not, filter, filter_map, if◌then◌else◌}
 use Rattle.std.specs.List.{list_any}
 use Rattle.std.proofs.lemmas.Bool.{cases_lt}
@@ -12,8 +12,8 @@ use Rattle.gor_marks.specs.declared.mark.Mark.TheVariants.{Home, Sealed}
 use Rattle.gor_image.specs.Images.{current, base_of, first_log_of, or_zero, sealed_window, live_windows}
 use Rattle.gor_image.specs.Recovered.{MayFollow}
 use Rattle.gor_flush.specs.ReadFiles.{is_read, earlier, is_replaced}
-use Rattle.gor_flush.specs.Dropping.{AreSomeMarks, is_log_in, is_block_of, drops, is_this_list}
-use Rattle.gor_flush.proofs.MarkLists.{home_alone, current_push, first_log_push, live_push, follows}
+use Rattle.gor_flush.specs.Dropping.{is_log_in, is_block_of, drops, is_this_list}
+use Rattle.gor_flush.proofs.MarkLists.{current_push, first_log_push, live_push, follows}
 
 earlier_push : (s : List Mark) (m : Mark) → earlier (s ++ m ∷ []) ≡ s
 earlier_push s m = take_at s (m ∷ []) (length (s ++ m ∷ []) - 1) (let l = length-append s (m ∷ []) in omega (arith, l))
@@ -148,6 +148,3 @@ first_replaces n h x = unlike (is_read (Home n h ∷ []) x) ∙ refl where
   unlike : (b : Bool) → (b && not b) ≡ false
   unlike true = refl
   unlike false = refl
-
-pub home_replaces : (s : List Mark) (n h : ℕ) → AreSomeMarks (s ++ Home n h ∷ []) → (x : FileId) → is_replaced (s ++ Home n h ∷ []) x ≡ false
-home_replaces s n h some x = subst (λ (l : List Mark). is_replaced (l ++ Home n h ∷ []) x ≡ false) (sym (home_alone s n h some)) (first_replaces n h x)

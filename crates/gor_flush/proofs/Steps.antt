@@ -2,7 +2,7 @@
 use Rattle.std.proofs.Common.{◌≡◌, ◌≢◌, ⊎_elim, ℕ, ◌<◌, ◌≤◌, List, Bool, true, false, refl, sym, ◌∙◌, ap, subst, arith}
 use Rattle.std.proofs.lemmas.Bool.{cases_lt}
 use Rattle.gor_disk.specs.declared.disk.FileId.{FileId}
-use Rattle.gor_disk.specs.Disk.{DiskView, Contents, IsImage, IsSettled, NothingPending, Touches, Runs, held_now, settled}
+use Rattle.gor_disk.specs.Disk.{DiskView, Contents, IsImage, IsSettled, Touches, Runs, held_now, settled}
 use Rattle.gor_flush.specs.Steps.{Leaves, IsGone, GoesOn, Keeps}
 use Rattle.gor_image.specs.Openings.{OnlyRead}
 
@@ -63,21 +63,6 @@ leaves_more which wider old new within leaves = record {
 pub gone_settled : (file : FileId) (disk : DiskView) → IsGone file disk → IsSettled disk file
 gone_settled file disk gone = gone.held ∙ ap settled (sym gone.seen)
 
--- a run goes on while these files are touched and the others are as they were
-pub goes_wide : (P : Contents → Type 0) (which : FileId → Bool) (old mid new : DiskView) → Runs P old mid → Leaves which mid new
-    → ((image : Contents) → ((f : FileId) → which f ≡ false → IsImage (held_now mid f) (image f)) → P image) → Runs P old new
-goes_wide P which old mid new so_far leaves holds = record {
-  later = omega (arith, so_far.later, leaves.later);
-  past = λ t f low. leaves.past t f (omega (arith, so_far.later)) ∙ so_far.past t f low;
-  each = λ t image low high is. ⊎_elim
-      (λ (late : mid.moment < t). holds image (λ f none. subst (λ h. IsImage h (image f)) (leaves.others t f none late high) (is f)))
-      (λ (early : t ≤ mid.moment). so_far.each t image low early (λ f. subst (λ h. IsImage h (image f)) (leaves.past t f early) (is f)))
-      (cases_lt mid.moment t);
-}
-
-pub goes_now : (old : DiskView) → GoesOn old old
-goes_now old = record { later = omega arith; past = λ t f low. refl }
-
 pub goes_then : (old mid new : DiskView) → GoesOn old mid → GoesOn mid new → GoesOn old new
 goes_then old mid new first second = record {
   later = omega (arith, first.later, second.later);
@@ -106,14 +91,6 @@ reads_keep P old new reads all k image low high is = ⊎_elim
     (λ (late : old.moment < k). all old.moment image (omega arith) (omega arith) (λ f. subst (λ h. IsImage h (image f)) (reads.same k f late high) (is f)))
     (λ (early : k ≤ old.moment). all k image low early (λ f. subst (λ h. IsImage h (image f)) (reads.past k f early) (is f)))
     (cases_lt old.moment k)
-
-pub reads_settled : (old new : DiskView) → OnlyRead old new → NothingPending old → NothingPending new
-reads_settled old new reads pending f = ⊎_elim
-    (λ (late : old.moment < new.moment). reads.same new.moment f late (omega arith) ∙ pending f ∙ ap settled (sym (reads.seen f)))
-    (λ (early : new.moment ≤ old.moment).
-    let same : new.moment ≡ old.moment = omega (arith, reads.later) in
-    reads.past new.moment f early ∙ ap (λ t. old.held t f) same ∙ pending f ∙ ap settled (sym (reads.seen f)))
-    (cases_lt old.moment new.moment)
 
 -- a property that each image of a run has where what was read had it
 pub runs_keep : (Q P : Contents → Type 0) (old new : DiskView) → ((f : FileId) → IsImage (held_now old f) (old.seen f)) → Runs Q old new → ((image : Contents) → P old.seen → Q image → P image) → Keeps P old new

@@ -1,8 +1,8 @@
 -- What an ensured file is, and stays while other files are touched.
 use Rattle.std.proofs.Common.{◌≡◌, ◌≢◌, inr, ℕ, List, sym, ◌∙◌, ap, subst, arith}
 use Rattle.gor_disk.specs.declared.disk.FileId.{FileId}
-use Rattle.gor_disk.specs.Disk.{DiskView, IsImage, IsSettled, Looks, Touches, settled, held_now}
-use Rattle.gor_disk.proofs.Runs.{only_settled, still, from_changes}
+use Rattle.gor_disk.specs.Disk.{DiskView, IsImage, IsSettled, Touches, settled, held_now}
+use Rattle.gor_disk.proofs.Runs.{only_settled, still}
 use Rattle.gor_gate.specs.Gates.{IsReady, IsClosed}
 use Rattle.gor_gate.specs.Places.{Place, IsEnsured}
 
@@ -21,10 +21,6 @@ stays_ensured disk new gated file Q differs ensured touches =
       settled = still file Q disk new touches gated.file differs ∙ ensured.settled ∙ ap settled (sym bytes);
       ready = subst (λ b. IsReady b gated.gate) (sym bytes) ensured.ready;
     }
-
--- a call that changes nothing touches nothing
-pub looks_touches : (file : FileId) (old new : DiskView) → Looks file old new → Touches file (IsImage (held_now old file)) old new
-looks_touches file old new looks = from_changes file (IsImage (held_now old file)) (held_now old file) old new looks.changes (λ c is. is)
 
 -- another file stays settled
 pub stays_settled : (disk new : DiskView) (file f : FileId) (Q : List ℕ → Type 0) → f ≢ file → IsSettled disk f → Touches file Q disk new → IsSettled new f

@@ -1,15 +1,12 @@
 -- Rows as they are filled one after another.
-use Rattle.std.proofs.Common.{◌≡◌, ℕ, zero, suc, ◌<◌, List, [], ◌∷◌, ◌++◌, length, map, Some, None, refl, sym, ap, ◌∙◌, subst, arith, max}
-use Rattle.std.specs.Prelude.{filter_map, slice_index_or, Result, Err, ⊤}
+use Rattle.std.proofs.Common.{◌≡◌, ℕ, zero, suc, ◌<◌, List, [], ◌∷◌, ◌++◌, length, map, None, sym, ap, ◌∙◌, subst, arith, max}
+use Rattle.std.specs.Prelude.{filter_map, slice_index_or, Result, ⊤}
 use Rattle.std.specs.List.{AllByRecursion, IsAmong}
-use Rattle.std.proofs.lemmas.List.{append_assoc, append-nil, map-append}
+use Rattle.std.proofs.lemmas.List.{append_assoc, map-append}
 use Rattle.gor_model.specs.Windows.{kept}
 use Rattle.gor_model.specs.PlainMap.{greatest}
 use Rattle.gor_image.specs.declared.gather.Gathered.{Gathered}
-use Rattle.gor_image.specs.declared.gather.Spot.{Spot}
 use Rattle.gor_image.specs.declared.fault.ImageFault.{ImageFault}
-use Rattle.gor_image.specs.declared.fault.DamageKind.TheVariants.{Order}
-use Rattle.gor_image.specs.declared.fault.ImageFault.TheVariants.{Damage}
 use Rattle.gor_image.specs.declared.names.NamedRow.{NamedRow}
 use Rattle.gor_image.specs.declared.recovered.OpenFault.{OpenFault}
 use Rattle.gor_image.specs.declared.recovered.RecoveredRow.{RecoveredRow}
@@ -23,7 +20,7 @@ use Rattle.gor_image.specs.Naming.{named_row}
 use Rattle.gor_image.specs.NamesRead.{filled_row}
 use Rattle.gor_image.specs.Recovered.{keyed_row}
 use Rattle.gor_image.specs.Gathering.{IsGathered, rise_of}
-use Rattle.gor_image.specs.Filling.{IsFilled, Fills, FailsToFill, FillAll, FailToFill}
+use Rattle.gor_image.specs.Filling.{IsFilled, Fills, FailsToFill, FailToFill}
 
 -- what is left gives the whole, whatever the files
 pub record Left (files : Files) (whole rest : List NamedRow) (rows : List RecoveredRow) : Type 0 where
@@ -32,9 +29,6 @@ pub record Left (files : Files) (whole rest : List NamedRow) (rows : List Recove
 
 abbrev pub FilledSoFar : List Gathered → List NamedRow → List NamedRow → List RecoveredRow → Type 0
 FilledSoFar series whole rest rows = (files : Files) → AllByRecursion (IsGathered files) series → Left files whole rest rows
-
-pub none_filled : (series : List Gathered) (whole : List NamedRow) → FilledSoFar series whole whole []
-none_filled series whole files all = record { rise = refl; are = refl }
 
 pub one_filled : (series : List Gathered) (whole rest : List NamedRow) (rows : List RecoveredRow) (named : NamedRow) (row : RecoveredRow)
     → FilledSoFar series whole (named ∷ rest) rows → Fills series named row → FilledSoFar series whole rest (rows ++ row ∷ [])
@@ -57,14 +51,6 @@ pub one_fails : (series : List Gathered) (whole rest : List NamedRow) (rows : Li
     → FilledSoFar series whole (named ∷ rest) rows → FailsToFill series named fault → FailToFill series whole fault
 one_fails series whole rest rows named fault so_far fails files all =
     subst (λ r. IsMet r fault) (sym (so_far files all).rise) (met_and (found_rise None (found_of files named.uid)) (rows_rise files (map named_row rest)) fault (fails files all))
-
-pub all_filled : (series : List Gathered) (whole rest : List NamedRow) (rows : List RecoveredRow) → rest ≡ [] → FilledSoFar series whole rest rows → FillAll series whole rows
-all_filled series whole rest rows none so_far files all =
-    let before = so_far files all in
-    record {
-      rise = before.rise ∙ ap (λ l. rows_rise files (map named_row l)) none;
-      are = sym (append-nil (map keyed_row rows)) ∙ (ap (λ l. map keyed_row rows ++ map (filled_row files) l) (sym none) ∙ before.are);
-    }
 
 -- ---- one row
 
@@ -92,7 +78,3 @@ filled_is files named row g own gathered fine name slot uid floor points = recor
       points ∙ (ap (λ f. kept f g.points) (sym floor ∙ floors) ∙ ap (kept (greatest named.floor (filter_map (seal_end named.uid) (log_records files.batches)))) (gathered.points ∙ ap (points_of files.base files.blocks (log_records files.batches)) own)) in
       cc;
 }
-
-pub fill_refused : (files : Files) (named : NamedRow) (g : Gathered) (spot : Spot) → g.uid ≡ named.uid → IsGathered files g → g.wrong ≡ Some spot
-    → found_rise None (found_of files named.uid) ≡ Err (Damage spot.file spot.at Order)
-fill_refused files named g spot own gathered wrong = ap (λ u. found_rise None (found_of files u)) (sym own) ∙ (gathered.rise ∙ ap rise_of wrong)

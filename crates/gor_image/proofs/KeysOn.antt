@@ -16,7 +16,7 @@ use Rattle.gor_image.specs.Grammars.{Reads, and_then, wrong, keys_at}
 use Rattle.gor_image.specs.Images.{read_bodies, read_walk, KeysRead, key_after, keys_after, read_keys, last_number, or_zero}
 use Rattle.gor_image.proofs.Lists.{all_last}
 use Rattle.gor_image.proofs.Append.{HasNumber}
-use Rattle.gor_image.proofs.AppendLaw.{all_map, least_greatest}
+use Rattle.gor_image.proofs.AppendLaw.{all_map}
 
 -- ---- key lists: the last number is one of those read
 
@@ -26,10 +26,6 @@ numbers rs = filter_map (λ r. number_in r.it) rs
 greatest_more : (n m : ℕ) (xs : List ℕ) → m ≤ greatest n (xs ++ m ∷ [])
 greatest_more n m [] = omega arith
 greatest_more n m (x ∷ xs) = let h = greatest_more n m xs in omega arith
-
-greatest_grows : (n : ℕ) (xs ys : List ℕ) → greatest n xs ≤ greatest n (xs ++ ys)
-greatest_grows n [] ys = least_greatest n ys
-greatest_grows n (x ∷ xs) ys = let h = greatest_grows n xs ys in omega arith
 
 one_bound : (upto : ℕ) (done : List ℕ) (st t : KeysRead) (at : ℕ) (r : KeyRecord) → st.number ≤ greatest upto done → key_after st at r ≡ Ok t → t.number ≤ greatest upto (done ++ cons_option (number_in r) [])
 one_bound upto done st t at (Create n s f name) le is = by (nat_lt st.number n) is where

@@ -1,6 +1,6 @@
 -- Logs as they are read on.
 use Rattle.std.proofs.Common.{◌≡◌, ◌≢◌, ℕ, suc, ◌+◌, ◌-◌, ◌<◌, ◌≤◌, ◌⊎◌, inl, inr, List, [], ◌∷◌, ◌++◌, map, Bool, true, false, Option, Some, None, refl, sym, ap, ◌∙◌, subst, arith}
-use Rattle.std.specs.Prelude.{filter, filter_map, flat_map, option_map, unwrap_or, nat_eq, nat_lt, Result, Ok, Err, IsTrue, if◌then◌else◌}
+use Rattle.std.specs.Prelude.{filter, filter_map, option_map, unwrap_or, nat_eq, nat_lt, Result, Ok, Err, IsTrue, if◌then◌else◌}
 use Rattle.std.specs.Option.{option_or}
 use Rattle.std.specs.List.{AllByRecursion, range_with_len}
 use Rattle.std.proofs.lemmas.Bool.Decides.{eqb_tells}
@@ -29,7 +29,7 @@ use Rattle.gor_image.specs.Openings.{IsMet}
 use Rattle.gor_image.specs.Gathering.{each_with_batch, each_with_batches}
 use Rattle.gor_image.specs.Ranges.{range_of}
 use Rattle.gor_image.specs.LogsRead.{last_from, top_row}
-use Rattle.gor_image.specs.LogReads.{HasLog, HasLogs, LogsAre, AreNoLogs, top_among}
+use Rattle.gor_image.specs.LogReads.{HasLog, LogsAre, AreNoLogs, top_among}
 use Rattle.gor_image.specs.BatchReads.{IsPart, AreParts}
 use Rattle.gor_image.proofs.Append.{all_both}
 use Rattle.gor_image.proofs.Lists.{all_weaker}
@@ -38,9 +38,6 @@ use Rattle.gor_image.proofs.Heights.{greatest_onto}
 use Rattle.gor_image.proofs.BlocksOn.{met_next}
 
 -- ---- the batches that are read of a log have its number
-
-AllOf : ℕ → List Batch → Type 0
-AllOf log batches = AllByRecursion (λ b. b.log ≡ log) batches
 
 record ReadsOn (log : ℕ) (before after : List Batch) : Type 0 where
   more : List Batch
@@ -113,9 +110,6 @@ earlier_none log (b ∷ batches) below = by (eqb_tells b.log log) (earlier_none 
   by : ((nat_eq b.log log ≡ true) × (b.log ≡ log)) ⊎ ((nat_eq b.log log ≡ false) × (b.log ≢ log)) → filter (λ b. nat_eq b.log log) batches ≡ [] → filter (λ b. nat_eq b.log log) (b ∷ batches) ≡ []
   by (inl same) rest = absurd (let e = same.1 in let o = below.0 in omega arith)
   by (inr other) rest = rw other.0 rest
-
-of_kept : List Batch → Option ℕ
-of_kept l = greatest_of (filter_map put_window (flat_map (λ b. map (λ r. r.it) b.records) l))
 
 top_kept : (l log : ℕ) (batches more : List Batch) → l < log → AllByRecursion (λ b. b.log ≡ log) more → top_among (batches ++ more) l ≡ top_among batches l
 top_kept l log batches more less own = ap (λ k. record { log = l; top = greatest_of (filter_map put_window (log_records k)) })
@@ -245,25 +239,7 @@ log_stops tells seen now log whole rest base low series mid logs fault t same so
     (met_next (read_gated seen (read_batch log) (Log log) so_far.batches) (λ more. read_logs seen rest more) fault
     (subst (λ bytes. IsMet (in_file (Log log) (read_walk (read_batch log) so_far.batches (gates bytes))) fault) same (met so_far.batches (sym so_far.logs_are.last))))
 
-pub all_logs_read : (tells : Bool) (seen : Contents) (log : ℕ) (whole rest : List ℕ) (base : Option ℕ) (low : ℕ) (series series' : List Gathered) (logs : Logs) → rest ≡ []
-    → LogsSoFar tells seen log whole rest base low series series' logs → HasLogs tells seen whole base low series series' logs
-all_logs_read tells seen log whole rest base low series series' logs none so_far = record {
-  batches = so_far.batches;
-  limits = so_far.limits;
-  rise = so_far.rise;
-  added = so_far.added;
-  logs_are = so_far.logs_are;
-  numbers_are = so_far.numbers_are ∙ sym all;
-  tops = λ t. so_far.tops t ∙ ap (map (top_among so_far.batches)) (sym all);
-  read = λ t. so_far.left t ∙ ap (λ l. read_logs seen l so_far.batches) none;
-} where
-  all : whole ≡ so_far.done
-  all = so_far.parts ∙ (ap (λ l. so_far.done ++ l) none ∙ append-nil so_far.done)
-
 -- ---- the numbers of a range
 
 pub next_up : (log current : ℕ) → log ≤ current → range_with_len log (current + 1 - log) ≡ log ∷ range_with_len (log + 1) (current + 1 - (log + 1))
 next_up log current le = let e : current + 1 - log ≡ suc (current + 1 - (log + 1)) = omega arith in ap (range_with_len log) e
-
-pub none_up : (log current : ℕ) → current < log → range_with_len log (current + 1 - log) ≡ []
-none_up log current less = let e : current + 1 - log ≡ 0 = omega arith in ap (range_with_len log) e

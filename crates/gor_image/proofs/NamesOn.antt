@@ -13,7 +13,7 @@ use Rattle.gor_image.specs.Recovery.{Names, no_names, filled, log_records, recov
 use Rattle.gor_image.specs.Holding.{row_at, rows_of}
 use Rattle.gor_image.specs.Images.{row_held, rows_by_slot, names_in}
 use Rattle.gor_image.specs.Naming.{seat, AreNames, named_row}
-use Rattle.gor_image.specs.NamesRead.{names_from, AreNamed, filled_row, Reaches, Stops}
+use Rattle.gor_image.specs.NamesRead.{names_from, AreNamed, filled_row, Stops}
 use Rattle.gor_image.specs.declared.recovered.OpenFault.{OpenFault}
 use Rattle.gor_image.specs.Openings.{IsMet}
 
@@ -38,12 +38,6 @@ no_names_yet upto ranges slots seats keys whole vacant none = record {
   };
   left = refl;
 }
-
-pub names_on : (upto : ℕ) (ranges : List Range) (seats seats' : List (Option NamedRow)) (keys keys' : List KeyedName) (whole rest : List (Placed KeyRecord)) (key : Placed KeyRecord)
-    → (so_far : NamesSoFar upto ranges seats keys whole (key ∷ rest)) → ((names : Names) → AreNames names seats keys → Reaches upto ranges names key seats' keys') → NamesSoFar upto ranges seats' keys' whole rest
-names_on upto ranges seats seats' keys keys' whole rest key so_far reaches =
-    let r = reaches so_far.names so_far.are in
-    record { names = r.after; are = r.are; left = so_far.left ∙ r.further rest }
 
 -- ---- by rising slot
 

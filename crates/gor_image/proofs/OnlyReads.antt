@@ -1,32 +1,9 @@
 -- Calls that only read, one after another.
-use Rattle.std.proofs.Common.{◌≡◌, ◌≢◌, ◌⊎◌, inl, inr, ⊎_elim, ℕ, ◌<◌, ◌≤◌, Bool, true, false, refl, sym, ap, ◌∙◌, subst, arith}
+use Rattle.std.proofs.Common.{◌≡◌, ⊎_elim, ℕ, ◌<◌, ◌≤◌, refl, ap, ◌∙◌, arith}
 use Rattle.std.proofs.lemmas.Bool.{cases_lt}
 use Rattle.gor_disk.specs.declared.disk.FileId.{FileId}
-use Rattle.gor_disk.specs.Disk.{DiskView, Looks, held_now}
-use Rattle.gor_disk.specs.Names.{same_file}
-use Rattle.gor_disk.proofs.Lookups.{same_is, same_refl}
+use Rattle.gor_disk.specs.Disk.{DiskView, held_now}
 use Rattle.gor_image.specs.Openings.{OnlyRead}
-
-same_or_other : (a b : FileId) → (a ≡ b) ⊎ (a ≢ b)
-same_or_other a b = at (same_file a b) refl where
-  at : (c : Bool) → same_file a b ≡ c → (a ≡ b) ⊎ (a ≢ b)
-  at true e = inl (same_is a b e)
-  at false e = inr (λ same. let one = same_refl a in let both : same_file a a ≡ false = subst (λ (x : FileId). same_file a x ≡ false) (sym same) e in cc)
-
--- a call that looks at a file
-pub looks_only : (file : FileId) (old new : DiskView) → Looks file old new → OnlyRead old new
-looks_only file old new looks = record {
-  later = looks.changes.later;
-  past = looks.changes.past;
-  same = λ t f after before. ⊎_elim
-      (λ (is : f ≡ file). subst (λ (x : FileId). new.held t x ≡ held_now old x) (sym is) (looks.changes.here t after before))
-      (λ (other : f ≢ file). looks.changes.others t f other after before)
-      (same_or_other f file);
-  seen = λ f. ⊎_elim
-      (λ (is : f ≡ file). subst (λ (x : FileId). new.seen x ≡ old.seen x) (sym is) looks.done.seen)
-      (λ (other : f ≢ file). looks.changes.other_bytes f other)
-      (same_or_other f file);
-}
 
 -- no call
 pub nothing_read : (old : DiskView) → OnlyRead old old

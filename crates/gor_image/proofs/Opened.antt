@@ -20,11 +20,11 @@ use Rattle.gor_image.specs.Recovery.{base_end}
 use Rattle.gor_image.specs.Grammars.{and_then}
 use Rattle.gor_image.specs.Holding.{rows_of, start_of}
 use Rattle.gor_image.specs.Images.{KeysRead, in_file, read_walk, read_gated, read_keys, read_blocks, read_logs, read_files, current, base_of, live_windows, remaining_logs, map_of_files, map_of_marks, map_of, marks_of, same_home, with_limits, opens_to, fresh_map, slots_needed}
-use Rattle.gor_image.specs.Openings.{IsMet, FaultCounts, CountsOpenFault}
+use Rattle.gor_image.specs.Openings.{IsMet, CountsOpenFault}
 use Rattle.gor_image.specs.NamesRead.{IsCalm}
 use Rattle.gor_image.specs.StoreReads.{IsBasedOn}
 use Rattle.gor_image.specs.Stores.{StoreIs, IsStore, HasStore, RestoresAll, FailsToRestore}
-use Rattle.gor_image.specs.Recovered.{AreTops, AreBehind, AreMarksOrNone, IsRecovered, is_fresh, keyed_row, recovered_start}
+use Rattle.gor_image.specs.Recovered.{AreBehind, IsRecovered, is_fresh, keyed_row, recovered_start}
 use Rattle.gor_image.specs.Recovers.{HasTops, OpensStore, Opens, IsFresh, TopsAre, store_opens}
 use Rattle.gor_image.proofs.BlocksOn.{met_next}
 use Rattle.gor_image.proofs.StoreOn.{blocks_same, logs_same}
@@ -183,20 +183,6 @@ module _ (seen : Contents) (shards shard slots : ℕ) where
 
 -- ---- on every disk
 
-pub store_recovered : (tells : Bool) (mid : Contents) (shards shard slots : ℕ) (marks : List Mark) → marks ≢ [] → AreMarksOrNone shards shard marks → (o : Result Recovered OpenFault)
-    → IfOk o (OpensStore tells mid marks slots) → IfOk o (IsRecovered shards shard slots)
-store_recovered tells mid shards shard slots marks some are (Err f) store = tt
-store_recovered tells mid shards shard slots marks some are (Ok r) store = record {
-  start = store.start;
-  marks = subst (AreMarksOrNone shards shard) (sym store.marks_are) are;
-  fresh = store.fresh ∙ (not_fresh marks some ∙ ap is_fresh (sym store.marks_are));
-  tops = subst (λ l. AreTops l r.tops.items) (sym store.marks_are) store.tops;
-  behind = subst (λ l. AreBehind l r.floor r.next) (sym store.marks_are) store.behind;
-} where
-  not_fresh : (l : List Mark) → l ≢ [] → false ≡ is_fresh l
-  not_fresh [] some = absurd (some refl)
-  not_fresh (m ∷ l) some = refl
-
 pub fresh_recovered : (shards shard slots : ℕ) (r : Recovered) → IsFresh r → IsRecovered shards shard slots r
 unfolding recovered_start
 fresh_recovered shards shard slots r is = record {
@@ -219,14 +205,6 @@ fresh_all_found seen shards shard slots (Err f) marks none is fresh = tt
 pub fresh_all_recovered : (shards shard slots : ℕ) (o : Result Recovered OpenFault) → IfOk o IsFresh → IfOk o (IsRecovered shards shard slots)
 fresh_all_recovered shards shard slots (Ok r) fresh = fresh_recovered shards shard slots r fresh
 fresh_all_recovered shards shard slots (Err f) fresh = tt
-
-pub fresh_met : {A : Type 0} (read : Result A ImageFault) (o : Result Recovered OpenFault) → IfErr o (λ f. f ≡ refused.NoMemory) → IfErr o (IsMet read)
-fresh_met read (Ok r) err = tt
-fresh_met read (Err f) err = subst (IsMet read) (sym err) tt
-
-pub fresh_counts : (o : Result Recovered OpenFault) (old new : ℕ) → IfErr o (λ f. f ≡ refused.NoMemory) → new ≡ old → CountsOpenFault o old new
-fresh_counts (Ok r) old new err same = same
-fresh_counts (Err f) old new err same = subst (λ x. FaultCounts x old new) (sym err) same
 
 pub some_marks : (marks : List Mark) → 0 < length marks → marks ≢ []
 some_marks [] some e = absurd (omega arith)

@@ -5,9 +5,8 @@ use Rattle.std.specs.List.{list_any, position_or_len, IsDistinct}
 use Rattle.std.proofs.lemmas.Bool.Decides.{eqb_tells}
 use Rattle.std.proofs.lemmas.Bool.{eq-eqb}
 use Rattle.std.proofs.lemmas.List.{map-append, length-map}
-use Rattle.gor_image.proofs.Lists.{all_append}
 use Rattle.gor_image.specs.declared.gather.Gathered.{Gathered}
-use Rattle.gor_image.specs.Gathering.{IsBegun, has_uid}
+use Rattle.gor_image.specs.Gathering.{has_uid}
 use Rattle.gor_image.specs.Placing.{IsPlaceOf, BeginsMore, ArePlaced}
 use Rattle.indexmap.specs.IndexSet.{insert_key}
 
@@ -46,16 +45,6 @@ place_is uid at xs is = by (nat_lt n (length (map (λ g. g.uid) xs))) refl is wh
 
 -- ---- one more
 
-pub any_more : (p : Gathered → Bool) (xs : List Gathered) (g : Gathered) → list_any p (xs ++ g ∷ []) ≡ (list_any p xs || p g)
-any_more p [] g = by (p g) where
-  by : (b : Bool) → (b || false) ≡ b
-  by true = refl
-  by false = refl
-any_more p (x ∷ xs) g = by (p x) (any_more p xs g) where
-  by : (b : Bool) → list_any p (xs ++ g ∷ []) ≡ (list_any p xs || p g) → (b || list_any p (xs ++ g ∷ [])) ≡ ((b || list_any p xs) || p g)
-  by true e = refl
-  by false e = e
-
 true_or : (b c : Bool) → b ≡ true → (b || c) ≡ true
 true_or true c e = refl
 true_or false c e = absurd (cc)
@@ -63,15 +52,6 @@ true_or false c e = absurd (cc)
 or_true : (b : Bool) → (b || true) ≡ true
 or_true true = refl
 or_true false = refl
-
-pub has_last : (uid : ℕ) (xs : List Gathered) (g : Gathered) → uid ≡ g.uid → IsTrue (list_any (has_uid uid) (xs ++ g ∷ []))
-has_last uid xs g same = any_more (has_uid uid) xs g ∙ (ap (λ b. list_any (has_uid uid) xs || b) (eq-eqb uid g.uid same) ∙ or_true (list_any (has_uid uid) xs))
-
-pub begins_more : (xs : List Gathered) (g : Gathered) → IsBegun g → BeginsMore xs (xs ++ g ∷ [])
-begins_more xs g begun = record {
-  begun = λ all. all_append IsBegun xs g all begun;
-  kept = λ uid has. any_more (has_uid uid) xs g ∙ true_or (list_any (has_uid uid) xs) (has_uid uid g) has;
-}
 
 pub begins_none : (xs : List Gathered) → BeginsMore xs xs
 begins_none xs = record { begun = λ all. all; kept = λ uid has. has }

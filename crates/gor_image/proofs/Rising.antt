@@ -20,9 +20,6 @@ use Rattle.gor_image.specs.Images.{Found, block_found, put_found, found_of, foun
 use Rattle.gor_image.proofs.Core.{Rises}
 use Rattle.gor_image.proofs.Lists.{all_weaker}
 
-abbrev point_of : Found → Point
-point_of x = x.point
-
 abbrev IsLater : Option ℕ → Point → Type 0
 IsLater last p = is_above last p.time ≡ true
 

@@ -1,9 +1,9 @@
 -- The journal's share after an event, by the step of the call that is made for it.
-use Rattle.std.proofs.Common.{◌≡◌, ℕ, ◌+◌, ◌≤◌, List, [], ◌∷◌, length, Some, false, refl, sym, ap, subst, ◌∙◌, arith}
+use Rattle.std.proofs.Common.{◌≡◌, ℕ, ◌+◌, List, ◌∷◌, length, Some, false, refl, sym, ap, subst, ◌∙◌, arith}
 use Rattle.gor_model.specs.Answers.{is_take, is_stop, is_stopped}
 use Rattle.gor_model.specs.Changes.{History, changed, changes}
 use Rattle.gor_model.specs.Shares.{JournalShare, journal_share, buffered_after, besides_of as held_besides}
-use Rattle.gor_model.specs.SharesAfter.{journal_with, journal_taken, journal_stopped}
+use Rattle.gor_model.specs.SharesAfter.{journal_with}
 use Rattle.gor_model.specs.declared.event.Call.{Call}
 use Rattle.gor_model.specs.declared.event.Call.TheVariants as call
 use Rattle.gor_model.specs.declared.event.Change.{Change}
@@ -12,9 +12,9 @@ use Rattle.gor_model.specs.declared.event.Reply.{Reply}
 use Rattle.gor_model.specs.declared.event.Reply.TheVariants as reply
 use Rattle.gor_model.specs.declared.start.Start.{Start}
 use Rattle.gor_journal.specs.declared.entry.Entry.{Entry}
-use Rattle.gor_journal.specs.Bodies.{Pending, fresh}
+use Rattle.gor_journal.specs.Bodies.{Pending}
 use Rattle.gor_journal.specs.Entries.{change_of, besides_of}
-use Rattle.gor_journal.specs.Events.{Makes, IsTake, IsStop, StandsAfter}
+use Rattle.gor_journal.specs.Events.{Makes, StandsAfter}
 use Rattle.gor_journal.specs.Stands.{Stands}
 
 -- an answer of a change is neither that of a Take nor that of a Stop
@@ -51,26 +51,3 @@ after_change old new entry number next step start H e made stands =
 spelled : (start : Start) (H : History) (e : Event) (c : Call) (r : Reply) → e.call ≡ c → e.reply ≡ r
     → journal_share start (record { lane = e.lane; slot = e.slot; call = c; reply = r } ∷ H) ≡ journal_share start (e ∷ H)
 spelled start H e c r is_call is_reply = sym (λ i. journal_share start (record { lane = e.lane; slot = e.slot; call = is_call i; reply = is_reply i } ∷ H))
-
-pub after_take : (old new : Pending) → ((share : JournalShare) → Stands old share → Stands new (journal_taken share)) → StandsAfter old new IsTake
-after_take old new step start H e made stands =
-    subst (Stands new) (spelled start H e call.Take (reply.Take made.count) made.call made.reply) (step (journal_share start H) stands)
-
-pub after_stop : (old new : Pending) → ((share : JournalShare) → Stands old share → Stands new (journal_stopped share)) → StandsAfter old new IsStop
-after_stop old new step start H e made stands =
-    subst (Stands new) (spelled start H e call.Stop reply.Stop made.call made.reply) (step (journal_share start H) stands)
-
--- ---- a start
-
-pub stands_fresh : (next : ℕ) → 1 ≤ next → (start : Start) → start.next ≡ next → Stands (fresh next) (journal_share start [])
-stands_fresh next some start is = record {
-  stopped = refl;
-  next = omega (arith, is);
-  changes = refl;
-  numbers = omega (arith, some, is);
-  buffered = refl;
-  top = refl;
-  keys = refl;
-  log = refl;
-  limits = record { keys = tt; log = tt };
-}

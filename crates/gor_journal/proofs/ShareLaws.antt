@@ -1,8 +1,7 @@
 -- A journal goes on standing for its share.
-use Rattle.std.proofs.Common.{◌≡◌, ℕ, ◌+◌, ◌-◌, ◌<◌, List, [], ◌∷◌, ◌++◌, length, Option, false, refl, sym, ap, subst, ◌∙◌, arith}
+use Rattle.std.proofs.Common.{◌≡◌, ℕ, ◌+◌, ◌-◌, List, [], ◌∷◌, ◌++◌, length, Option, false, refl, sym, ap, subst, ◌∙◌, arith}
 use Rattle.std.specs.Prelude.{option_to_list, sum_by, map}
 use Rattle.std.specs.List.{flat_map, AllByRecursion}
-use Rattle.std.specs.Int.{w64, to_be_bytes}
 use Rattle.std.proofs.lemmas.List.{append-nil}
 use Rattle.std.proofs.lemmas.Grind.{flat_map-append}
 use Rattle.std.proofs.lemmas.List.Sums.{sum_by-cons}
@@ -10,7 +9,7 @@ use Rattle.gor_model.specs.Answers.{weight}
 use Rattle.gor_model.specs.AnswersByShares.{weight_by}
 use Rattle.gor_model.specs.Fields.{IsNumber}
 use Rattle.gor_model.specs.Shares.{Buffered, JournalShare}
-use Rattle.gor_model.specs.SharesAfter.{journal_with, journal_taken, journal_stopped}
+use Rattle.gor_model.specs.SharesAfter.{journal_with, journal_stopped}
 use Rattle.gor_model.specs.declared.event.Change.{Change}
 use Rattle.gor_model.specs.declared.unit.Unit.TheVariants.{Second}
 use Rattle.gor_keys.specs.declared.record.KeyRecord.{KeyRecord}
@@ -18,13 +17,12 @@ use Rattle.gor_keys.specs.declared.record.KeyRecord.TheVariants as key
 use Rattle.gor_keys.specs.Spelling.{IsRecord as IsKeyRecord, record_spelling as key_spelling}
 use Rattle.gor_log.specs.declared.record.LogRecord.{LogRecord}
 use Rattle.gor_log.specs.Spelling.{IsRecord, record_spelling as log_spelling}
-use Rattle.gor_journal.specs.declared.buffers.Buffers.{Buffers}
 use Rattle.gor_journal.specs.declared.entry.Entry.{Entry}
 use Rattle.gor_journal.specs.declared.entry.Entry.TheVariants.{Create, Put, Delete, Floor, Seal}
-use Rattle.gor_journal.specs.Bodies.{Pending, HoldAll, stored, key_body, log_body, with_entry, emptied, stopping}
+use Rattle.gor_journal.specs.Bodies.{Pending, with_entry, stopping}
 use Rattle.gor_journal.specs.Entries.{InLimits, IsNamed, FitWords, key_bytes, log_bytes, entry_weight, entry_window, change_of, besides_of, greater}
-use Rattle.gor_journal.specs.Records.{created, logged, point_window, key_records, log_records, greatest_window, keys_spelled, batch_spelled, first_number}
-use Rattle.gor_journal.specs.Stands.{Stands, AreOf}
+use Rattle.gor_journal.specs.Records.{created, logged, point_window, key_records, log_records, greatest_window, first_number}
+use Rattle.gor_journal.specs.Stands.{Stands}
 
 -- ---- lists
 
@@ -146,44 +144,4 @@ stands_stopped p share stands = record {
   keys = stands.keys;
   log = stands.log;
   limits = stands.limits;
-}
-
-pub stands_taken : (p : Pending) (share : JournalShare) → Stands p share → Stands (emptied p) (journal_taken share)
-stands_taken p share stands = record {
-  stopped = stands.stopped;
-  next = stands.next;
-  changes = refl;
-  numbers = omega (arith, stands.numbers);
-  buffered = refl;
-  top = refl;
-  keys = refl;
-  log = refl;
-  limits = record { keys = tt; log = tt };
-}
-
--- ---- what was taken
-
-keys_body : (rs : List KeyRecord) → key_body (flat_map (key_spelling Second) rs) ≡ keys_spelled rs
-keys_body [] = refl
-keys_body (key.Create n slot floor name ∷ rs) = refl
-keys_body (key.Delete n slot ∷ rs) = refl
-keys_body (key.Live uid slot floor name ∷ rs) = refl
-
-log_of : (waits : List Buffered) (next : ℕ) → length waits < next → log_body (length waits) next (flat_map log_spelling (log_records waits)) ≡ batch_spelled (next - length waits) waits
-log_of [] next fits = refl
-log_of (b ∷ older) next fits =
-    let last : next - 1 ≡ (next - length (b ∷ older)) + length older = omega (arith, fits) in
-    ap (λ n. 1 ∷ (to_be_bytes w64 (next - length (b ∷ older)) ++ (to_be_bytes w64 n ++ flat_map log_spelling (log_records (b ∷ older))))) last
-
-pub taken_are : (p : Pending) (buffers : Buffers) → HoldAll p buffers → (share : JournalShare) → Stands p share → AreOf (first_number share) share.buffered buffers
-taken_are p buffers all share stands = record {
-  keys = all.keys ∙ ap (λ l. stored (key_body l)) stands.keys ∙ ap stored (keys_body (key_records (first_number share) share.buffered));
-  log = all.log ∙ ap (λ (x : ℕ × ℕ × List ℕ). stored (log_body x.0 x.1 x.2)) (λ i. (stands.changes i, stands.next i, stands.log i))
-      ∙ ap stored (log_of share.buffered share.next stands.numbers);
-  changes = all.changes ∙ stands.changes;
-  numbers = λ some. let n = all.numbers (omega (arith, some, stands.changes)) in (omega (arith, n.0, stands.changes, stands.next), omega (arith, n.1, stands.changes, stands.next, stands.numbers));
-  top = all.top ∙ stands.top;
-  limits = stands.limits;
-  key_place = all.key_place;
-  log_place = all.log_place;
 }

@@ -57,10 +57,6 @@ last_get (x ∷ y ∷ ys) (suc n) e = more (last_of (y ∷ ys)) (slice_get (y �
 pub above_last : (xs : List Point) (n : ℕ) (p : Point) → length xs ≡ suc n → slice_get xs n ≡ Some p → IsAbove xs (p.time + 1)
 above_last xs n p size is = subst (λ (z : Option Point). MatchOption z ⊤ (λ (q : Point). q.time < p.time + 1)) (sym (last_get xs n size ∙ is)) (omega arith)
 
-pub above_none : (xs : List Point) (t : ℕ) → length xs ≡ 0 → IsAbove xs t
-above_none [] t e = tt
-above_none (x ∷ xs) t e = absurd (omega arith)
-
 -- a put behind the last point and on or behind the floor is stored
 pub stored_by : (journal : JournalShare) (series : SeriesShare) (t : ℕ) → journal.stopped ≡ false → series.row.floor ≤ t → IsAbove series.row.points t
     → put_there_by journal series t ≡ reply.Stored (due_by journal)

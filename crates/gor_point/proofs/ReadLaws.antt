@@ -20,11 +20,7 @@ use Rattle.gor_cell.specs.Steps.{holds_key, IsCopyOf, copied_points}
 use Rattle.gor_cell.proofs.ByShares.{copy_by_share}
 use Rattle.gor_dir.specs.Listings.{Listing, shown}
 use Rattle.gor_point.specs.declared.reads.Wanted.{Wanted}
-use Rattle.gor_hall.specs.declared.pass.Pass.{Pass}
-use Rattle.gor_point.specs.declared.reads.Found.{Found}
-use Rattle.gor_point.specs.declared.reads.Found.TheVariants as found
-use Rattle.gor_point.specs.Points.{Makes}
-use Rattle.gor_point.specs.Gets.{missed_event, found_event, get_call, Answers, WasRead}
+use Rattle.gor_point.specs.Gets.{missed_event, found_event}
 use Rattle.gor_point.specs.Views.{HasDirectory, HasSeries, IsSound, KeepsShares}
 use Rattle.gor_point.proofs.ViewLaws.{directory_stays, marked_start, marked_share, series_there, row_here}
 
@@ -77,8 +73,3 @@ module _ (v : View) (sound : IsSound v) (lane : ℕ) (wanted : Wanted) where
     pub found_keeps : (n : ℕ) (w : View) → HasMarked v (found_event lane slot wanted copied) n w → KeepsShares v w
     found_keeps n w m o has = marked_share v w _ n m o has (share_of v.start o v.at)
         (subst (λ (e : Event). share_of v.start o (e ∷ v.at) ≡ share_of v.start o v.at) same (get_leaves v.start sound.start v.at sound.legal lane slot key wanted.from wanted.to there.0 low there.1 o))
-
--- where memory is wanting for what was read, the event stands
-pub read_stands : (old new : Pass) (wanted : Wanted) (f : Found) → Answers old wanted new f → WasRead f → (n : ℕ) × (points : List Point) × Makes old n (get_call wanted) (reply.Points points) new
-read_stands old new wanted (found.Read read) answers was = (read.number, copied_points read.copied, answers)
-read_stands old new wanted (found.Missed n) answers was = absurd was

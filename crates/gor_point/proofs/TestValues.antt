@@ -1,5 +1,5 @@
 -- The values of a shard of two slots stand for the shares of the empty history.
-use Rattle.std.proofs.Common.{◌≡◌, ℕ, zero, suc, ◌+◌, ◌<◌, List, [], ◌∷◌, length, Bool, Option, Some, None, refl, sym, ap, subst, ◌∙◌, inl, arith, slice_get}
+use Rattle.std.proofs.Common.{◌≡◌, ℕ, zero, suc, ◌+◌, ◌<◌, List, [], ◌∷◌, Bool, Option, Some, None, refl, sym, ap, subst, ◌∙◌, inl, arith, slice_get}
 use Rattle.std.specs.Prelude.{map}
 use Rattle.gor_disk.specs.Disk.{DiskView}
 use Rattle.gor_model.specs.PlainMap.{unused_slots}

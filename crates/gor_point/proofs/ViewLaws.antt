@@ -28,7 +28,7 @@ use Rattle.gor_journal.specs.Bodies.{Kept}
 use Rattle.gor_journal.specs.Stands as log
 use Rattle.gor_point.specs.declared.held.Held.{Held}
 use Rattle.gor_point.specs.Held.{HasAll}
-use Rattle.gor_point.specs.Views.{HasDirectory, HasSeries, HasJournal, HasEvent, HasNone}
+use Rattle.gor_point.specs.Views.{HasDirectory, HasSeries, HasJournal, HasEvent}
 
 -- ---- a part stands where its share is as it was
 
@@ -134,14 +134,6 @@ holds_live key (Some s) h = search
 
 -- ---- the journal is above all else
 
-pub below_one : (slots : ℕ) → AllBelow (slots + 2) (1 ∷ [])
-below_one slots o (inl is) = omega (arith, is)
-below_one slots o (inr none) = absurd none
-
-pub below_series : (slots slot : ℕ) → slot < slots → AllBelow (slots + 2) ((slot + 2) ∷ [])
-below_series slots slot low o (inl is) = omega (arith, is, low)
-below_series slots slot low o (inr none) = absurd none
-
 pub below_both : (slots slot : ℕ) → slot < slots → AllBelow (slots + 2) ((slot + 2) ∷ 1 ∷ [])
 below_both slots slot low o (inl is) = omega (arith, is, low)
 below_both slots slot low o (inr (inl is)) = omega (arith, is)
@@ -172,19 +164,6 @@ some_share (Some s) share stands = search
 pub no_share : (live : Option Packed) → cell.Stands live None → live ≡ None
 no_share None stands = refl
 no_share (Some s) stands = absurd stands
-
--- the event of a view is that of one that has seen and made the same
-pub event_same : (v w x : View) (n : ℕ) (e : Event) → HasEvent v n e w → HasNone w x → HasEvent v n e x
-event_same v w x n e h none = record {
-  before = h.before;
-  start = none.start ∙ h.start;
-  seen = none.seen ∙ h.seen;
-  begins = h.begins;
-  number = h.number;
-  legal = subst (λ (z : Start × History). Legal z.0 z.1) (λ i. (sym none.start i, sym none.seen i)) h.legal;
-  lane = ap (numbers e.lane) none.seen ∙ h.lane;
-  mine = none.mine ∙ h.mine;
-}
 
 -- ---- all three given back, one after another
 

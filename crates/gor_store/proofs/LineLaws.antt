@@ -253,9 +253,6 @@ get_some shard old new name spelt from to get.NoMemory rests same f = ⊎_elim (
 pub rests_on : {V : Type 0} (shard : Hall V) (old mid new : Pass) (a b n : ℕ) → a + b ≤ n → RestsAgain shard a old mid → RestsAgain shard b mid new → RestsAgain shard n old new
 rests_on shard old mid new a b n few x y = record { rests = y.rests; lane = y.lane ∙ x.lane; left = let p = x.left in let q = y.left in omega arith }
 
-pub rests_few : {V : Type 0} (shard : Hall V) (old new : Pass) (a n : ℕ) → a ≤ n → RestsAgain shard a old new → RestsAgain shard n old new
-rests_few shard old new a n few x = record { rests = x.rests; lane = x.lane; left = let p = x.left in omega arith }
-
 -- a shard that is not there
 pub told_shard : {V : Type 0} (shard : Hall V) (number : ℕ) (p : Pass) → IsResting shard p → 1 ≤ number → IsTold (line_.Flush number) p p (what_.Refused reason.Shard)
 told_shard shard number p rests apart = told_refused (line_.Flush number) p p reason.Shard (LineAnswers.flush_shard number apart) (no_run shard p rests)

@@ -1,6 +1,6 @@
 -- A series that holds a row's points under the floor 0 is the row's own once its floor is that of the row.
-use Rattle.std.proofs.Common.{rules, ◌≡◌, ℕ, ◌<◌, List, [], ◌∷◌, Option, Some, None, true, refl, ap, subst, ◌∙◌, arith, max}
-use Rattle.std.specs.Prelude.{IsTrue, IsSome, IfSome}
+use Rattle.std.proofs.Common.{◌≡◌, ℕ, List, [], ◌∷◌, Option, Some, true, refl, ap, subst, ◌∙◌, max}
+use Rattle.std.specs.Prelude.{IsTrue}
 use Rattle.std.specs.List.{AllByRecursion}
 use Rattle.std.proofs.Math.Nat.{zero-max}
 use Rattle.gor_model.specs.declared.point.Point.{Point}
@@ -16,15 +16,6 @@ use Rattle.gor_store.specs.Series.{open_share, share_of_row}
 pub all_kept : (floor : ℕ) (points : List Point) → AllByRecursion (λ p. IsTrue (is_kept floor p)) points → kept floor points ≡ points
 all_kept floor [] all = refl
 all_kept floor (p ∷ points) all = let here : is_kept floor p ≡ true = all.0 in rw here (ap (λ (l : List Point). p ∷ l) (all_kept floor points all.1))
-
-pub stands_live : (live : Option Packed) (share : SeriesShare) → Stands live (Some share) → IsSome live
-stands_live None share stands = absurd stands
-stands_live (Some s) share stands = search rules
-
--- a window ends above the floor 0
-pub ends_above : (live : Option Packed) (r : RecoveredRow) (points : List Point) (w : ℕ) → Stands live (Some (open_share r points)) → IfSome live (λ s. s.floor < window_end w)
-ends_above None r points w stands = absurd stands
-ends_above (Some s) r points w stands = let zero_floor = stands.floor in omega (arith, zero_floor)
 
 pub sealed_row : (r : RecoveredRow) (w : ℕ) (new : Option Packed) → window_end w ≡ r.floor → AllByRecursion (λ p. IsTrue (is_kept r.floor p)) r.points
     → Stands new (Some (after_seal w (open_share r r.points))) → Stands new (Some (share_of_row r))

@@ -1,18 +1,16 @@
 -- The series of each slot by the rows of a start, and cells that stand for them.
-use Rattle.std.proofs.Common.{◌≡◌, ◌≢◌, ◌⊎◌, inl, inr, ℕ, zero, suc, ◌+◌, ◌<◌, List, [], ◌∷◌, ◌++◌, length, get_or, take, drop, true, false, Option, Some, None, refl, sym, ap, subst, ◌∙◌, arith}
+use Rattle.std.proofs.Common.{◌≡◌, ◌≢◌, ◌⊎◌, inl, inr, ℕ, zero, suc, ◌+◌, ◌<◌, List, [], ◌∷◌, ◌++◌, length, get_or, take, drop, true, false, Option, Some, None, refl, sym, ap, subst, arith}
 use Rattle.std.specs.Prelude.{nat_eq, map, slice_get, slice_set, if◌then◌else◌}
 use Rattle.std.specs.List.{AllByRecursion}
-use Rattle.std.proofs.lemmas.List.{length-append}
 use Rattle.std.proofs.lemmas.Bool.Decides.{eqb_tells}
 use Rattle.gor_model.specs.declared.start.Row.{Row}
 use Rattle.gor_model.specs.Shares.{SeriesShare}
 use Rattle.gor_model.specs.Starts.{AreApart}
-use Rattle.gor_cell.specs.Packed.{Packed}
 use Rattle.gor_cell.specs.Stands.{Stands}
 use Rattle.gor_cell.specs.declared.cell.Cell.{Cell}
 use Rattle.gor_image.specs.Recovered.{keyed_row}
 use Rattle.gor_image.specs.declared.recovered.RecoveredRow.{RecoveredRow}
-use Rattle.gor_store.specs.Series.{AreVacant, CellsStand, series_in, share_of_row}
+use Rattle.gor_store.specs.Series.{CellsStand, series_in, share_of_row}
 use Rattle.gor_store.proofs.Places.{map_longer, map_parted, IsOther, apart_before}
 
 abbrev Rows : Type 0
@@ -33,32 +31,11 @@ set_get (z ∷ xs) (suc i) (suc j) x y is = later (set_get xs i j x y is) where
   later (inl both) = inl (ap suc both.0, both.1)
   later (inr both) = inr ((λ same. both.0 (omega (arith, same))), both.1)
 
-all_get : {X : Type 0} (P : X → Type 0) (xs : List X) (i : ℕ) (x : X) → AllByRecursion P xs → slice_get xs i ≡ Some x → P x
-all_get P [] zero x all is = absurd (let wrong : None ≡ Some x = is in cc)
-all_get P [] (suc i) x all is = absurd (let wrong : None ≡ Some x = is in cc)
-all_get P (y ∷ ys) zero x all is = let same : Some y ≡ Some x = is in let own : y ≡ x = cc in subst P own all.0
-all_get P (y ∷ ys) (suc i) x all is = all_get P ys i x all.1 is
-
 -- ---- cells without a series
-
-pub no_cells : (cells : List Cell) → cells ≡ [] → AreVacant 0 cells
-no_cells cells is = rw is (record { count = refl; vacant = tt })
 
 all-append : {X : Type 0} (P : X → Type 0) (xs ys : List X) → AllByRecursion P xs → AllByRecursion P ys → AllByRecursion P (xs ++ ys)
 all-append P [] ys all more = more
 all-append P (x ∷ xs) ys all more = (all.0, all-append P xs ys all.1 more)
-
-pub one_more_cell : (n : ℕ) (cells more : List Cell) (c : Cell) → AreVacant n cells → c.live ≡ None → more ≡ cells ++ c ∷ [] → AreVacant (n + 1) more
-one_more_cell n cells more c are vacant is = rw is (record {
-  count = length-append cells (c ∷ []) ∙ ap (λ k. k + 1) are.count;
-  vacant = all-append (λ x. x.live ≡ None) cells (c ∷ []) are.vacant (vacant, tt);
-})
-
-vacant_stands : (live : Option Packed) → live ≡ None → Stands live None
-vacant_stands live is = rw is tt
-
-pub vacant_cells_stand : (n : ℕ) (cells : List Cell) → AreVacant n cells → CellsStand [] cells
-vacant_cells_stand n cells are slot cell at = vacant_stands cell.live (all_get (λ c. c.live ≡ None) cells slot cell are.vacant at)
 
 -- ---- one row more
 

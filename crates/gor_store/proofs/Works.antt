@@ -49,17 +49,6 @@ added_newest_first old new events lane begins made_is each =
       each = all_reverse (StandsIn (seen new)) events each;
     }
 
--- one addition after another
-pub added_more : (old mid new : Pass) (first later : List Numbered) → HasAdded old mid first → HasAdded mid new later → HasAdded old new (first ++ later)
-added_more old mid new first later a b = record {
-  lane = b.lane ∙ a.lane;
-  begins = beginning_trans (seen old) (seen mid) (seen new) a.begins b.begins;
-  made_is = b.made_is
-      ∙ (ap (λ (ns : List ℕ). numbers_of later ++ ns) a.made_is
-      ∙ (sym (append_assoc (numbers_of later) (numbers_of first) (made old)) ∙ ap (λ (ns : List ℕ). ns ++ made old) (sym (numbers_of_more first later))));
-  each = all-append (StandsIn (seen new)) first later (stand_on (seen mid) (seen new) first b.begins a.each) b.each;
-}
-
 pub added_is_later : AddedIsLater
 added_is_later old new events a own_old own_new =
     let older = seen old in

@@ -11,9 +11,7 @@ use Rattle.gor_model.specs.declared.event.Event.{Event}
 use Rattle.gor_model.specs.declared.start.Start.{Start}
 use Rattle.gor_model.specs.Changes.{History}
 use Rattle.gor_model.specs.Answers.{Legal}
-use Rattle.gor_text.specs.declared.workload.Line.{Line}
-use Rattle.gor_text.specs.LineAnswers.{Act}
-use Rattle.gor_text.specs.Transcripts.{Served, Printed, Rises, StandsIn, IsPrinted, printed_from, printed_lanes, text_of, FinishSeals, Transcript}
+use Rattle.gor_text.specs.Transcripts.{Served, Printed, Rises, StandsIn, IsPrinted, printed_from, printed_lanes}
 use Rattle.gor_text.specs.Interleaved.{printed_events, of_lane, LanesPrint, PhasesMade}
 
 -- ---- lists
@@ -301,20 +299,4 @@ is_printed start shard phases whole made legal = record {
   rising = run_rises shard 0 [] phases whole made;
   stands = run_stands shard 0 [] phases whole made;
   legal = legal;
-}
-
--- what the lanes answered, and for each shard one legal history that they made, is the transcript of their lines
-pub transcript_of_lanes : (may : Line → List Act → Type 0) (shards : ℕ) (starts : ℕ → Start) (phases : List (List (List Served))) (histories : ℕ → History)
-    → AllByRecursion (AllByRecursion (AllByRecursion (λ s. may s.line s.acts))) phases
-    → ((shard : ℕ) → shard < shards → PhasesMade shard 0 [] phases (histories shard) × Legal (starts shard) (histories shard))
-    → AllByRecursion (AllByRecursion (AllByRecursion (λ s. FinishSeals starts histories s.line s.acts))) phases
-    → Transcript may shards starts (map (map (map (λ s. s.line))) phases) (text_of phases)
-transcript_of_lanes may shards starts phases histories answers made sealed = record {
-  served = phases;
-  histories = histories;
-  lines = refl;
-  answers = answers;
-  written = refl;
-  printed = λ shard below. is_printed (starts shard) shard phases (histories shard) (made shard below).0 (made shard below).1;
-  sealed = sealed;
 }

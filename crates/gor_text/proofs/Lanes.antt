@@ -13,10 +13,6 @@ lane_grows lines [] i x d line below is = absurd (omega arith)
 lane_grows lines (y ∷ xs) zero x d line below is = ap (λ (l : List Line). l ∷ map lines xs) is
 lane_grows lines (y ∷ xs) (suc i) x d line below is = ap (λ (ls : List (List Line)). lines y ∷ ls) (lane_grows lines xs i x d line (omega arith) is)
 
-pub one_more_lane : (n : ℕ) → replicate n [] ++ [] ∷ [] ≡ replicate {A = List Line} (suc n) []
-one_more_lane zero = refl
-one_more_lane (suc n) = ap (λ (ls : List (List Line)). [] ∷ ls) (one_more_lane n)
-
 -- ---- what one more line does to the phases
 
 -- the last phase, changed

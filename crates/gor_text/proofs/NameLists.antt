@@ -38,16 +38,6 @@ ends all names text word count r is named below =
     let good : list_all is_named (names ++ word ∷ []) ≡ true = named_all names [] word r.named ∙ rw named refl in
     rw (← whole) (rw (some, few, good) refl)
 
-pub bad_name : (all names : List (List ℕ)) (text word : List ℕ) (more : List (List ℕ)) (count : ℕ) → ReadSoFar all names text count → words_of text ≡ word ∷ more → is_named word ≡ false
-    → names_of all ≡ None
-bad_name all names text word more count r is named =
-    let whole : names ++ word ∷ more ≡ all = ap (λ (ws : List (List ℕ)). names ++ ws) (sym is) ∙ r.joined in
-    let bad : list_all is_named (names ++ word ∷ more) ≡ false = named_all names more word r.named ∙ rw named refl in
-    rw (← whole) (rw bad (either (names ++ word ∷ more) (nat_le 1 (length (names ++ word ∷ more)) && nat_le (length (names ++ word ∷ more)) 16))) where
-      either : (x : List (List ℕ)) (b : Bool) → cond (b && false) (Some x) None ≡ None
-      either x true = refl
-      either x false = refl
-
 pub too_many : (all names : List (List ℕ)) (text : List ℕ) (count : ℕ) → ReadSoFar all names text count → 16 ≤ count → names_of all ≡ None
 too_many all names text count r most =
     let first = first_of text in
