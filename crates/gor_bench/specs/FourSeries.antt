@@ -1,5 +1,5 @@
 -- A start with four series, and the values of its objects.
-use Rattle.std.specs.Prelude.{◌≡◌, ℕ, ◌+◌, List, [], ◌∷◌, length}
+use Rattle.std.specs.Prelude.{◌≡◌, ℕ, ◌+◌, List, [], ◌∷◌, length, false}
 use Rattle.gor_model.specs.declared.start.Row.{Row}
 use Rattle.gor_model.specs.declared.start.Start.{Start}
 use Rattle.gor_hall.specs.Openings.{AllStand}
@@ -21,6 +21,7 @@ four_series = record {
   shard = 0;
   since = 0;
   faults = 0;
+  fit = false;
 }
 
 -- seven values, which stand for the shares of the empty history

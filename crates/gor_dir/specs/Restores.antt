@@ -1,5 +1,5 @@
 -- How the directory of a start is built, a row at a time.
-use Rattle.std.specs.Prelude.{◌≡◌, ℕ, List, [], ◌∷◌, Some, filter, if◌then◌else◌}
+use Rattle.std.specs.Prelude.{◌≡◌, ℕ, List, [], ◌∷◌, Some, filter, if◌then◌else◌, false}
 use Rattle.std.specs.List.{IsDistinct}
 use Rattle.std.specs.List.Sorted.{IsPermutation}
 use Rattle.std.specs.Map.{keys_of}
@@ -12,7 +12,7 @@ use Rattle.gor_dir.specs.Pools.{is_apart}
 
 -- a start with so many slots and no series
 abbrev pub bare_start : ℕ → Start
-bare_start slots = record { slots = slots; floor = 0; next = 1; rows = []; shards = 0; shard = 0; since = 0; faults = 0 }
+bare_start slots = record { slots = slots; floor = 0; next = 1; rows = []; shards = 0; shard = 0; since = 0; faults = 0; fit = false }
 
 -- the second start has a series more, in some place of its rows
 pub record AddsRow (before : Start) (row : Row) (after : Start) : Type 0 where

@@ -27,3 +27,4 @@ pub mod Founds
 pub mod Opens
 pub mod Stands
 pub mod Recovers
+pub mod FitTests

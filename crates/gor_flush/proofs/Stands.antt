@@ -1,7 +1,7 @@
 -- The device that an opening gives stands for the share of a history without events.
-use Rattle.std.proofs.Common.{◌≡◌, ℕ, ◌+◌, ◌≤◌, List, [], ◌∷◌, false, refl, sym, ◌∙◌, ap, subst, arith}
+use Rattle.std.proofs.Common.{◌≡◌, ℕ, ◌+◌, ◌≤◌, List, [], ◌∷◌, Bool, false, refl, sym, ◌∙◌, ap, subst, arith}
 use Rattle.std.specs.Prelude.{Ok, IsTrue}
-use Rattle.gor_disk.specs.Disk.{DiskView, Contents, IsImage, IsImageAt, held_now}
+use Rattle.gor_disk.specs.Disk.{DiskView, Contents, IsImage, IsImageAt}
 use Rattle.gor_gate.specs.Places.{Place, IsEnsured}
 use Rattle.gor_marks.specs.declared.mark.Mark.{Mark}
 use Rattle.gor_marks.specs.Spelling.{IsHome}
@@ -12,12 +12,14 @@ use Rattle.gor_image.specs.declared.recovered.LogTop.{LogTop}
 use Rattle.gor_image.specs.declared.recovered.Recovered.{Recovered}
 use Rattle.gor_image.specs.Holding.{start_of}
 use Rattle.gor_image.specs.Fit.{IsFitFor, FitHolds}
+use Rattle.gor_flush.specs.FitTest.{is_fit}
+use Rattle.gor_flush.proofs.FitTests.{fit_is_told}
 use Rattle.gor_flush.specs.Found.{Found}
 use Rattle.gor_image.specs.Images.{current, map_of}
 use Rattle.gor_image.specs.Laws.{IsBefore}
 use Rattle.gor_image.specs.Recovered.{AreMarks, AreMarksOrNone, AreTops, AreBehind, IsRecovered, recovered_start}
 use Rattle.gor_flush.specs.declared.files.CurrentFiles.{CurrentFiles}
-use Rattle.gor_flush.specs.Devices.{Shown, StandsFor, HoldsAll, WasFit, ShowTops}
+use Rattle.gor_flush.specs.Devices.{Shown, StandsFor, HoldsAll, ShowTops}
 use Rattle.gor_flush.specs.Opening.{AreFiles, AreEnsured, HoldsOn, IsOpened}
 use Rattle.gor_flush.specs.Preparing.{device_marks}
 use Rattle.gor_flush.specs.Starts.{opened_start, start_with}
@@ -40,40 +42,44 @@ behind_now : (shards shard : ℕ) (marks : List Mark) (above next : ℕ) → Are
 behind_now shards shard [] above next behind = record { floor = behind.floor; upto = behind.upto }
 behind_now shards shard (m ∷ more) above next behind = behind
 
-module _ (slots : ℕ) (r : Recovered) (of which since faults : ℕ) where
-  floor_is : (device_share (opened_start slots r of which since faults) []).floor ≡ r.floor
+module _ (slots : ℕ) (r : Recovered) (of which since faults : ℕ) (fit : Bool) where
+  floor_is : (device_share (opened_start slots r of which since faults fit) []).floor ≡ r.floor
   unfolding opened_start
   floor_is = refl
 
-  next_is : (opened_start slots r of which since faults).next + 0 ≡ r.next
+  next_is : (opened_start slots r of which since faults fit).next + 0 ≡ r.next
   unfolding opened_start
   next_is = omega arith
 
-  of_is : of ≡ (opened_start slots r of which since faults).shards
+  of_is : of ≡ (opened_start slots r of which since faults fit).shards
   unfolding opened_start
   of_is = refl
 
-  which_is : which ≡ (opened_start slots r of which since faults).shard
+  which_is : which ≡ (opened_start slots r of which since faults fit).shard
   unfolding opened_start
   which_is = refl
 
-  since_is : since ≡ (opened_start slots r of which since faults).since
+  since_is : since ≡ (opened_start slots r of which since faults fit).since
   unfolding opened_start
   since_is = refl
 
-  faults_are : faults ≡ (opened_start slots r of which since faults).faults
+  faults_are : faults ≡ (opened_start slots r of which since faults fit).faults
   unfolding opened_start
   faults_are = refl
 
-  -- the moment and the faults of a start do not count for what an image holds
-  held_so : (shards shard : ℕ) (image : Contents) → FitHolds shards shard image (recovered_start slots r) [] → FitHolds shards shard image (opened_start slots r of which since faults) []
+  fit_is : fit ≡ (opened_start slots r of which since faults fit).fit
+  unfolding opened_start
+  fit_is = refl
+
+  -- of what disk a start is does not count for what an image holds
+  held_so : (shards shard : ℕ) (image : Contents) → FitHolds shards shard image (recovered_start slots r) [] → FitHolds shards shard image (opened_start slots r of which since faults fit) []
   unfolding recovered_start opened_start
   held_so shards shard image held = record {
     fit = held.fit;
     holds = record { map = held.holds.map; is = held.holds.is; state = record { floor = held.holds.state.floor; rows = held.holds.state.rows } };
   }
 
-  before_so : (shards shard : ℕ) (image : Contents) (marks : List Mark) → IsBefore shards shard image marks (recovered_start slots r) [] → IsBefore shards shard image marks (opened_start slots r of which since faults) []
+  before_so : (shards shard : ℕ) (image : Contents) (marks : List Mark) → IsBefore shards shard image marks (recovered_start slots r) [] → IsBefore shards shard image marks (opened_start slots r of which since faults fit) []
   unfolding recovered_start opened_start
   before_so shards shard image marks before = record {
     fit = record {
@@ -87,15 +93,15 @@ module _ (slots : ℕ) (r : Recovered) (of which since faults : ℕ) where
 -- ---- what the images hold
 
 module _ (d : Shown) (slots : ℕ) (r : Recovered) (old : DiskView) where
-  pub images_hold : d.opened ≡ old.moment → GoesOn old d.disk → ((f : _) → IsImage (held_now old f) (old.seen f)) → HoldsOn d.shards d.shard old.seen old d.disk → Found d.shards d.shard slots old.seen r
-      → IsOpened d.shards d.shard old.seen d.list d.tops d.disk → WasFit d → HoldsAll d (start_with slots r d) (device_share (start_with slots r d) [])
-  images_hold opened goes stays holds found ready fit = record {
+  pub images_hold : d.opened ≡ old.moment → HoldsOn d.shards d.shard old.seen old d.disk → Found d.shards d.shard slots old.seen r → IsOpened d.shards d.shard old.seen d.list d.tops d.disk
+      → IsFitFor d.shards d.shard old.seen → HoldsAll d (start_with slots r d) (device_share (start_with slots r d) [])
+  images_hold opened holds found ready was = record {
     prefixes = λ k image low high here. record {
       later = [];
       prefix = [];
       all = refl;
       enough = omega arith;
-      holds = held_so slots r d.shards d.shard d.opened d.begun d.shards d.shard image (subst (λ (s : Start). FitHolds d.shards d.shard image s []) same (holds was found.map maps slots k image (omega arith) high here));
+      holds = held_so slots r d.shards d.shard d.opened d.begun (is_fit d.shards d.shard d.given) d.shards d.shard image (subst (λ (s : Start). FitHolds d.shards d.shard image s []) same (holds was found.map maps slots k image (omega arith) high here));
     };
     kept = tt;
     now = record {
@@ -105,16 +111,13 @@ module _ (d : Shown) (slots : ℕ) (r : Recovered) (old : DiskView) where
         prefix = [];
         all = refl;
         exact = refl;
-        before = before_so slots r d.shards d.shard d.opened d.begun d.shards d.shard image d.list
+        before = before_so slots r d.shards d.shard d.opened d.begun (is_fit d.shards d.shard d.given) d.shards d.shard image d.list
             (subst (λ (c : Contents). IsBefore d.shards d.shard c d.list (recovered_start slots r) []) (at_now k image low high here)
             (subst (λ (s : Start). IsBefore d.shards d.shard d.disk.seen d.list s []) same (ready.before was found.map maps slots)));
       };
       tops = λ k image low high here. subst (λ (c : Contents). ShowTops d.list d.tops c) (at_now k image low high here) ready.tops;
     };
   } where
-    was : IsFitFor d.shards d.shard old.seen
-    was = fit old.seen (λ f. subst (λ h. IsImage h (old.seen f)) (sym (goes.past d.opened f (omega arith))) (subst (λ k. IsImage (old.held k f) (old.seen f)) (sym opened) (stays f)))
-
     maps : map_of old.seen d.shards d.shard ≡ Ok found.map
     maps = opened_map d.shards d.shard slots old.seen found.map found.opens
 
@@ -129,7 +132,6 @@ module _ (d : Shown) (slots : ℕ) (r : Recovered) (old : DiskView) where
 -- what an opening that tells its contents gives
 pub record Told (d : Shown) (slots : ℕ) (r : Recovered) (old : DiskView) : Type 0 where
   pub goes : GoesOn old d.disk
-  pub stays : (f : _) → IsImage (held_now old f) (old.seen f)
   pub holds : HoldsOn d.shards d.shard old.seen old d.disk
   pub found : Found d.shards d.shard slots old.seen r
   pub ready : IsOpened d.shards d.shard old.seen d.list d.tops d.disk
@@ -150,12 +152,12 @@ pub record Made (d : Shown) (r : Recovered) : Type 0 where
   pub written : d.written ≡ 0
   pub faults : d.faults ≡ d.begun
 
-pub stands_open : (d : Shown) (slots : ℕ) (r : Recovered) (old : DiskView) → IsRecovered d.shards d.shard slots r → Made d r → d.opened ≡ old.moment → (IsTrue d.tells → Told d slots r old) → StandsFor d (start_with slots r d) (device_share (start_with slots r d) [])
-stands_open d slots r old recovered made opened told = record {
-  shards_are = of_is slots r d.shards d.shard d.opened d.begun;
-  shard_is = which_is slots r d.shards d.shard d.opened d.begun;
-  opened = since_is slots r d.shards d.shard d.opened d.begun;
-  begun = faults_are slots r d.shards d.shard d.opened d.begun;
+pub stands_open : (d : Shown) (slots : ℕ) (r : Recovered) (old : DiskView) → IsRecovered d.shards d.shard slots r → Made d r → d.opened ≡ old.moment → d.given ≡ old.seen → (IsTrue d.tells → Told d slots r old) → StandsFor d (start_with slots r d) (device_share (start_with slots r d) [])
+stands_open d slots r old recovered made opened given told = record {
+  shards_are = of_is slots r d.shards d.shard d.opened d.begun (is_fit d.shards d.shard d.given);
+  shard_is = which_is slots r d.shards d.shard d.opened d.begun (is_fit d.shards d.shard d.given);
+  opened = since_is slots r d.shards d.shard d.opened d.begun (is_fit d.shards d.shard d.given);
+  begun = faults_are slots r d.shards d.shard d.opened d.begun (is_fit d.shards d.shard d.given);
   stopped = made.stopped;
   since = λ t. let goes = (told t).goes in omega (arith, goes.later, opened);
   runs = record {
@@ -166,8 +168,8 @@ stands_open d slots r old recovered made opened told = record {
     marks = subst (AreMarks d.shards d.shard) (sym made.list) (marks_now d.shards d.shard made.home r.marks.items recovered.marks);
     tops = subst (λ (l : List LogTop). AreTops d.list l) (sym made.tops) (subst (λ (l : List Mark). AreTops l r.tops.items) (sym made.list) (tops_now d.shards d.shard r.marks.items r.tops.items recovered.tops));
     behind = subst (λ (l : List Mark). AreBehind l (device_share (start_with slots r d) []).floor ((start_with slots r d).next + 0)) (sym made.list)
-        (subst (λ n. AreBehind (device_marks d.shards d.shard r.marks.items) (device_share (start_with slots r d) []).floor n) (sym (next_is slots r d.shards d.shard d.opened d.begun))
-        (subst (λ n. AreBehind (device_marks d.shards d.shard r.marks.items) n r.next) (sym (floor_is slots r d.shards d.shard d.opened d.begun)) (behind_now d.shards d.shard r.marks.items r.floor r.next recovered.behind)));
+        (subst (λ n. AreBehind (device_marks d.shards d.shard r.marks.items) (device_share (start_with slots r d) []).floor n) (sym (next_is slots r d.shards d.shard d.opened d.begun (is_fit d.shards d.shard d.given)))
+        (subst (λ n. AreBehind (device_marks d.shards d.shard r.marks.items) n r.next) (sym (floor_is slots r d.shards d.shard d.opened d.begun (is_fit d.shards d.shard d.given))) (behind_now d.shards d.shard r.marks.items r.floor r.next recovered.behind)));
     files = (
       ap (λ p. p.file) made.marks ∙ made.files_are.marks,
       ap (λ p. p.file) made.keys ∙ made.files_are.keys ∙ ap (λ (l : List Mark). Rattle.gor_disk.specs.declared.disk.FileId.TheVariants.Keys (current l)) (sym made.list),
@@ -175,7 +177,8 @@ stands_open d slots r old recovered made opened told = record {
     );
     ensured = λ t. (told t).ensured;
   };
-  images = λ t fit. let all = told t in images_hold d slots r old opened all.goes all.stays all.holds all.found all.ready fit;
+  images = λ t fit. let all = told t in images_hold d slots r old opened all.holds all.found all.ready
+      (subst (IsFitFor d.shards d.shard) given ((fit_is_told d.shards d.shard d.given).0 (fit_is slots r d.shards d.shard d.opened d.begun (is_fit d.shards d.shard d.given) ∙ fit)));
 }
 
 -- what holds of three values holds of their equals

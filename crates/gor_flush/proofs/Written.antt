@@ -25,12 +25,12 @@ use Rattle.gor_image.specs.Images.{current, remaining_logs}
 use Rattle.gor_image.specs.Laws.{IsBefore}
 use Rattle.gor_image.specs.Recovered.{AreMarks}
 use Rattle.gor_image.specs.declared.recovered.LogTop.{LogTop}
-use Rattle.gor_flush.specs.Devices.{Shown, HoldsAll, HoldsPrefix, IsRunning, IsSettled, RunsBy, SettledBy, ShowTops, StandsFor, WasFit, last_count}
+use Rattle.gor_flush.specs.Devices.{Shown, HoldsAll, HoldsPrefix, IsRunning, IsSettled, RunsBy, SettledBy, ShowTops, StandsFor, last_count}
 use Rattle.gor_flush.specs.Flushes.{HoldsEither, IsWithin, MayExtend, OthersStay, with_body}
 use Rattle.gor_flush.specs.Takes.{share_done, share_stopped}
 use Rattle.gor_flush.specs.Writes.{raised}
 use Rattle.gor_flush.proofs.Extending.{within}
-use Rattle.gor_flush.proofs.Keeping.{after, kept_done, kept_on, prefixes_on, still_image}
+use Rattle.gor_flush.proofs.Keeping.{after, kept_done, kept_on, prefixes_on}
 use Rattle.gor_flush.proofs.Restoring.{told}
 use Rattle.gor_flush.proofs.Shown.{tops_shown}
 use Rattle.gor_flush.proofs.Taken.{first_is, low_numbers, split, taken_before, taken_now, waiting_is}
@@ -132,9 +132,6 @@ module _ (d : Shown) (buffers : Buffers) (start : Start) (h : History) (begins :
       since : d.opened ≤ disk.moment
       since = let a = stood.since tells in let b = called.any_moment.later in omega (arith, a, b)
 
-      was_fit : WasFit new → WasFit d
-      was_fit fit image is = fit image (still_image (λ i. Unit {0}) (IsWithin d.keys.file d.log.file buffers.keys.items buffers.log.items d.disk) d.disk disk called.any_moment d.opened image (stood.since tells) is)
-
     -- ---- after a fault
 
     pub stands_stopped : stopped ≡ true → Rose d.faults faults → ((t : IsTrue d.tells) → Called d buffers disk) → StandsFor new start (share_stopped start h)
@@ -147,7 +144,7 @@ module _ (d : Shown) (buffers : Buffers) (start : Start) (h : History) (begins :
       since = λ t. since (called t) t;
       runs = subst (λ n. Rose n faults) running.faults rose;
       images = λ t fit.
-          let images = stood.images t (was_fit (called t) t fit) in
+          let images = stood.images t fit in
           let either = (called t).either d.shards d.shard head.m head.marks start C E (may images) in
           record {
             prefixes = prefixes_on d disk faults keys log tops left stopped written start C E either images.prefixes;
@@ -227,7 +224,7 @@ module _ (d : Shown) (buffers : Buffers) (start : Start) (h : History) (begins :
         since = λ t. since (done t).called t;
         runs = subst (λ b. RunsBy b new start (share_done disk.moment start h)) (sym going) running_on;
         images = λ t fit.
-            let images = stood.images t (was_fit (done t).called t fit) in
+            let images = stood.images t fit in
             let either = (done t).called.either d.shards d.shard head.m head.marks start C E (may images) in
             let low : last_count (device_share start h).dones ≤ length C = let c = running.done in omega (arith, c) in
             record {

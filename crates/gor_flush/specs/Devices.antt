@@ -2,7 +2,7 @@
 use Rattle.std.specs.Prelude.{◌≡◌, ℕ, ◌+◌, ◌≤◌, List, [], ◌∷◌, ◌++◌, length, Bool, true, false, IsTrue, Ok, ⊤}
 use Rattle.std.specs.List.{AllByRecursion}
 use Rattle.gor_disk.specs.declared.disk.FileId.TheVariants.{Marks, Keys, Log}
-use Rattle.gor_disk.specs.Disk.{DiskView, Contents, IsImageAt, LeavesSince, NothingPending, Rose}
+use Rattle.gor_disk.specs.Disk.{DiskView, Contents, LeavesSince, NothingPending, Rose}
 use Rattle.gor_gate.specs.Places.{Place, IsEnsured}
 use Rattle.gor_model.specs.declared.event.Change.{Change}
 use Rattle.gor_model.specs.declared.start.Start.{Start}
@@ -12,7 +12,7 @@ use Rattle.gor_journal.specs.declared.buffers.Buffers.{Buffers}
 use Rattle.gor_journal.specs.Bodies.{AreEmpty}
 use Rattle.gor_image.specs.Records.{Batch}
 use Rattle.gor_image.specs.Images.{current, remaining_logs, read_logs, top_of}
-use Rattle.gor_image.specs.Fit.{IsFitFor, FitHolds}
+use Rattle.gor_image.specs.Fit.{FitHolds}
 use Rattle.gor_image.specs.Laws.{IsBefore}
 use Rattle.gor_image.specs.Recovered.{AreMarks, AreTops, AreBehind}
 use Rattle.gor_image.specs.declared.recovered.LogTop.{LogTop}
@@ -20,8 +20,8 @@ use Rattle.gor_flush.specs.declared.device.Device.{Device}
 
 -- Whether the disk tells its contents, what it tells, and how often it has failed. Whose files these are. The gated files
 -- that are appended to. The marks, and the logs that remain by them. What is taken and not written yet. Whether the device
--- is stopped, and how many changes it has written since its opening. The moment at which its opening began, and how often
--- the disk had failed when it ended.
+-- is stopped, and how many changes it has written since its opening. The files as its opening met them, the moment at which
+-- it began, and how often the disk had failed when it ended.
 pub record Shown : Type 0 where
   pub tells : Bool
   pub disk : DiskView
@@ -36,6 +36,7 @@ pub record Shown : Type 0 where
   pub buffers : Buffers
   pub stopped : Bool
   pub written : ℕ
+  pub given : Contents
   pub opened : ℕ
   pub begun : ℕ
 
@@ -55,6 +56,7 @@ shown tells view faults d = record {
   buffers = d.buffers;
   stopped = d.stopped;
   written = d.written;
+  given = (view d.first.value).seen;
   opened = (view d.first.value).moment;
   begun = faults d.begun.value;
 }
@@ -127,10 +129,7 @@ abbrev pub RunsBy : Bool → Shown → Start → DeviceShare → Type 0
 RunsBy true d start share = Rose d.begun d.faults
 RunsBy false d start share = IsRunning d start share
 
--- ---- what it is where the disk tells its contents and was fit at the opening
-
-abbrev pub WasFit : Shown → Type 0
-WasFit d = (image : Contents) → IsImageAt d.disk d.opened image → IsFitFor d.shards d.shard image
+-- ---- what it is where the disk tells its contents and the files were fit at the opening
 
 pub record IsSettled (d : Shown) (start : Start) (share : DeviceShare) : Type 0 where
   pub pending : NothingPending d.disk
@@ -156,7 +155,7 @@ pub record StandsFor (d : Shown) (start : Start) (share : DeviceShare) : Type 0 
   pub stopped : d.stopped ≡ share.stopped
   pub since : IsTrue d.tells → d.opened ≤ d.disk.moment
   pub runs : RunsBy share.stopped d start share
-  pub images : IsTrue d.tells → WasFit d → HoldsAll d start share
+  pub images : IsTrue d.tells → start.fit ≡ true → HoldsAll d start share
 
 -- as the value of an object: whatever the object's number, the share is that of a device
 abbrev pub device_stands : Start → ℕ → Shown → Share → Type 0

@@ -1,4 +1,5 @@
 pub mod Devices
+pub mod FitTest
 pub mod Starts
 pub mod Flushes
 pub mod Keeps

@@ -11,10 +11,12 @@ abbrev pub device_marks : ℕ → ℕ → List Mark → List Mark
 device_marks shards shard [] = Home shards shard ∷ []
 device_marks shards shard (m ∷ marks) = m ∷ marks
 
--- a device of this home, whose opening began with the disk as it was handed in, which had failed so often and has not failed since
+-- a device of this home, whose opening began with the disk as it was handed in and met its files, which had failed so often and
+-- has not failed since
 pub record BeginsAt (shards shard : ℕ) (old : DiskView) (faults : ℕ) (d : Shown) : Type 0 where
   pub shards_are : d.shards ≡ shards
   pub shard_is : d.shard ≡ shard
   pub opened : d.opened ≡ old.moment
+  pub given : d.given ≡ old.seen
   pub begun : d.begun ≡ faults
   pub goes : IsTrue d.tells → GoesOn old d.disk

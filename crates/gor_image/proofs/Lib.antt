@@ -27,6 +27,7 @@ pub mod WorkedRows
 pub mod ReadBack
 pub mod FitStands
 pub mod FitLaw
+pub mod FitTold
 pub mod Appending
 pub mod SameLists
 pub mod WorkedStore

@@ -1,5 +1,5 @@
 -- An image that is fit begins from what it recovers to.
-use Rattle.std.proofs.Common.{◌≡◌, ℕ, inl, List, [], ◌∷◌, None, refl, sym, ap, ◌∙◌, subst, arith}
+use Rattle.std.proofs.Common.{◌≡◌, ℕ, inl, List, [], ◌∷◌, None, refl, sym, ap, ◌∙◌, subst, arith, false}
 use Rattle.std.specs.Prelude.{Ok, Result, filter_map}
 use Rattle.std.specs.List.{range_with_len}
 use Rattle.gor_model.specs.Windows.{slots_of_a_shard}
@@ -45,7 +45,7 @@ fresh_rows = no_rows (range_with_len 0 slots_of_a_shard)
 
 fresh_state : (slots : ℕ) → HoldsState fresh_map (start_of slots fresh_map) []
 fresh_state slots = record { floor = refl; rows = λ key. none (rows_of fresh_map) fresh_rows key } where
-  none : (rows : List _) → rows ≡ [] → (key : List ℕ) → None ≡ kept_row_after (record { slots = slots; floor = 0; next = 1; rows = rows; shards = 0; shard = 0; since = 0; faults = 0 }) [] key
+  none : (rows : List _) → rows ≡ [] → (key : List ℕ) → None ≡ kept_row_after (record { slots = slots; floor = 0; next = 1; rows = rows; shards = 0; shard = 0; since = 0; faults = 0; fit = false }) [] key
   none [] e key = refl
   none (r ∷ rows) e key = absurd (cc)
 

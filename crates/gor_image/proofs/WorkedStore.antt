@@ -114,22 +114,22 @@ next_is_two = refl
 -- the state after its one put
 
 abbrev begun : Start
-begun = record { slots = 4; floor = 0; next = 1; rows = []; shards = 0; shard = 0; since = 0; faults = 0 }
+begun = record { slots = 4; floor = 0; next = 1; rows = []; shards = 0; shard = 0; since = 0; faults = 0; fit = false }
 
 abbrev its_put : Change
 its_put = change.Put (97 ∷ []) (key_of (97 ∷ [])) 10 1
 
-its_state : HoldsState (recovered files names) (record { slots = 4; floor = 0; next = 1; rows = []; shards = 0; shard = 0; since = 0; faults = 0 }) (change.Put (97 ∷ []) (key_of (97 ∷ [])) 10 1 ∷ [])
+its_state : HoldsState (recovered files names) (record { slots = 4; floor = 0; next = 1; rows = []; shards = 0; shard = 0; since = 0; faults = 0; fit = false }) (change.Put (97 ∷ []) (key_of (97 ∷ [])) 10 1 ∷ [])
 unfolding unused_slots
 its_state = record { floor = refl; rows = rows } where
-  rows : (key : List ℕ) → (recovered files names).row key ≡ kept_row_after (record { slots = 4; floor = 0; next = 1; rows = []; shards = 0; shard = 0; since = 0; faults = 0 }) (change.Put (97 ∷ []) (key_of (97 ∷ [])) 10 1 ∷ []) key
+  rows : (key : List ℕ) → (recovered files names).row key ≡ kept_row_after (record { slots = 4; floor = 0; next = 1; rows = []; shards = 0; shard = 0; since = 0; faults = 0; fit = false }) (change.Put (97 ∷ []) (key_of (97 ∷ [])) 10 1 ∷ []) key
   rows key = by (bytes_eq key (key_of (97 ∷ []))) refl where
     by : (b : Bool) → bytes_eq key (key_of (97 ∷ [])) ≡ b
-        → (recovered files names).row key ≡ kept_row_after (record { slots = 4; floor = 0; next = 1; rows = []; shards = 0; shard = 0; since = 0; faults = 0 }) (change.Put (97 ∷ []) (key_of (97 ∷ [])) 10 1 ∷ []) key
+        → (recovered files names).row key ≡ kept_row_after (record { slots = 4; floor = 0; next = 1; rows = []; shards = 0; shard = 0; since = 0; faults = 0; fit = false }) (change.Put (97 ∷ []) (key_of (97 ∷ [])) 10 1 ∷ []) key
     by true e = rw e refl
     by false e = rw e refl
 
-pub it_holds : Holds 1 0 (store log_bytes) (record { slots = 4; floor = 0; next = 1; rows = []; shards = 0; shard = 0; since = 0; faults = 0 }) (change.Put (97 ∷ []) (key_of (97 ∷ [])) 10 1 ∷ [])
+pub it_holds : Holds 1 0 (store log_bytes) (record { slots = 4; floor = 0; next = 1; rows = []; shards = 0; shard = 0; since = 0; faults = 0; fit = false }) (change.Put (97 ∷ []) (key_of (97 ∷ [])) 10 1 ∷ [])
 it_holds = record { map = recovered files names; is = its_map; state = its_state }
 
 -- ---- the gate of the log shut: the key record is covered by no batch, and its number is used up

@@ -1,5 +1,5 @@
 -- The state that files hold, and when they are fit to be written on.
-use Rattle.std.specs.Prelude.{◌≡◌, ℕ, ◌<◌, ◌≤◌, List, [], ◌∷◌, ◌++◌, Option, Some, Ok, filter_map, option_and_then, option_map, ⊤}
+use Rattle.std.specs.Prelude.{◌≡◌, ℕ, ◌<◌, ◌≤◌, List, [], ◌∷◌, ◌++◌, Option, Some, Ok, filter_map, option_and_then, option_map, ⊤, false}
 use Rattle.std.specs.List.{AllByRecursion, range_with_len}
 use Rattle.gor_model.specs.Lists.{EachBefore}
 use Rattle.gor_model.specs.declared.event.Change.{Change}
@@ -87,4 +87,4 @@ unfoldable pub rows_of : ShardMap → List (List ℕ × Row)
 rows_of map = filter_map (row_at map) (range_with_len 0 slots_of_a_shard)
 
 abbrev pub start_of : ℕ → ShardMap → Start
-start_of slots map = record { slots = slots; floor = map.floor; next = map.next; rows = rows_of map; shards = 0; shard = 0; since = 0; faults = 0 }
+start_of slots map = record { slots = slots; floor = map.floor; next = map.next; rows = rows_of map; shards = 0; shard = 0; since = 0; faults = 0; fit = false }

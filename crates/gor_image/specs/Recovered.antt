@@ -59,7 +59,7 @@ keyed_row r = (key_of r.name, row_of r)
 
 -- the start with so many slots that was recovered
 unfoldable pub recovered_start : ℕ → Recovered → Start
-recovered_start slots r = record { slots = slots; floor = r.floor; next = r.next; rows = map keyed_row r.rows.items; shards = 0; shard = 0; since = 0; faults = 0 }
+recovered_start slots r = record { slots = slots; floor = r.floor; next = r.next; rows = map keyed_row r.rows.items; shards = 0; shard = 0; since = 0; faults = 0; fit = false }
 
 -- what an opening gives with so many slots, whatever the disk tells
 pub record IsRecovered (shards shard slots : ℕ) (r : Recovered) : Type 0 where

@@ -15,7 +15,7 @@ use Rattle.gor_model.proofs.PlainNames.{IsPlain, plain_key}
 use Rattle.gor_model.proofs.LegalRows.{MayAskAll, Legal-history_of, wrong_reply}
 
 abbrev start_of : ℕ → Start
-start_of slots = record { slots = slots; floor = 0; next = 1; rows = []; shards = 0; shard = 0; since = 0; faults = 0 }
+start_of slots = record { slots = slots; floor = 0; next = 1; rows = []; shards = 0; shard = 0; since = 0; faults = 0; fit = false }
 
 plain : (n : ℕ) → 97 ≤ n → n ≤ 122 → AllByRecursion IsPlain (n ∷ [])
 plain n low high = (record { low = omega arith; high = omega arith; lower = inr (omega arith) }, tt)

@@ -13,9 +13,9 @@ pub struct Row {
     pub points: Points,
 }
 
-/// The map that a shard starts from, as its opening recovered it; of how many shards it is which; and when it was opened: the
-/// moment of its disk's clock as the opening began, and how often the disk had failed then. Answers depend on the map alone.
-/// Contracts alone speak of a start: no value of it is made.
+/// The map that a shard starts from, as its opening recovered it; of how many shards it is which; and what disk was opened: the
+/// moment of its clock as the opening began, how often it had failed then, and whether the files that it held were fit.
+/// Answers depend on the map alone. Contracts alone speak of a start: no value of it is made.
 #[derive(Drop)]
 pub struct Start {
     pub slots: u32,
@@ -26,6 +26,7 @@ pub struct Start {
     pub shard: u32,
     pub since: u64,
     pub faults: u64,
+    pub fit: bool,
 }
 
 /// What a pass did to an object of a shard, by the object's number. Contracts alone speak of it.

@@ -1,5 +1,5 @@
 -- A start with one series, and the values of its objects.
-use Rattle.std.specs.Prelude.{◌≡◌, ℕ, List, [], ◌∷◌, length}
+use Rattle.std.specs.Prelude.{◌≡◌, ℕ, List, [], ◌∷◌, length, false}
 use Rattle.gor_model.specs.declared.start.Row.{Row}
 use Rattle.gor_model.specs.declared.start.Start.{Start}
 use Rattle.gor_hall.specs.Openings.{AllStand}
@@ -14,7 +14,7 @@ abbrev pub first_row : Row
 first_row = record { name = letter_a; slot = 0; uid = 1; floor = 0; points = [] }
 
 abbrev pub one_series : Start
-one_series = record { slots = 1; floor = 0; next = 2; rows = (letter_a, first_row) ∷ []; shards = 0; shard = 0; since = 0; faults = 0 }
+one_series = record { slots = 1; floor = 0; next = 2; rows = (letter_a, first_row) ∷ []; shards = 0; shard = 0; since = 0; faults = 0; fit = false }
 
 -- four values, which stand for the shares of the empty history
 abbrev pub AreFirst : List Plain → Type 0

@@ -24,6 +24,7 @@ use Rattle.gor_flush.specs.declared.device.Device.{Device}
 use Rattle.gor_flush.specs.declared.part.Part.{Part}
 use Rattle.gor_flush.specs.declared.part.Part.TheVariants as part
 use Rattle.gor_flush.specs.Starts.{opened_start, start_with}
+use Rattle.gor_flush.specs.FitTest.{is_fit}
 use Rattle.gor_image.specs.Recovered.{recovered_start, keyed_row}
 use Rattle.gor_image.specs.declared.recovered.Recovered.{Recovered}
 use Rattle.gor_store.specs.declared.values.Parts.{Parts}
@@ -151,25 +152,25 @@ module _ (slots : ℕ) (r : Recovered) where
   unfolding recovered_start
   next_is = refl
 
-  -- the moment and the faults of a start do not count for it
-  module _ (of which since faults : ℕ) where
-    pub is_start : IsStart (recovered_start slots r) → IsStart (opened_start slots r of which since faults)
+  -- of what disk a start is does not count for it
+  module _ (of which since faults : ℕ) (fit : Bool) where
+    pub is_start : IsStart (recovered_start slots r) → IsStart (opened_start slots r of which since faults fit)
     unfolding recovered_start opened_start
     is_start is = record { floor = is.floor; next = is.next; rows = is.rows; apart = is.apart }
 
-    directory_same : directory_share (recovered_start slots r) [] ≡ directory_share (opened_start slots r of which since faults) []
+    directory_same : directory_share (recovered_start slots r) [] ≡ directory_share (opened_start slots r of which since faults fit) []
     unfolding recovered_start opened_start unused_slots
     directory_same = refl
 
-    journal_same : journal_share (recovered_start slots r) [] ≡ journal_share (opened_start slots r of which since faults) []
+    journal_same : journal_share (recovered_start slots r) [] ≡ journal_share (opened_start slots r of which since faults fit) []
     unfolding recovered_start opened_start
     journal_same = refl
 
-    slots_same : slots ≡ (opened_start slots r of which since faults).slots
+    slots_same : slots ≡ (opened_start slots r of which since faults fit).slots
     unfolding opened_start
     slots_same = refl
 
-    rows_same : map keyed_row r.rows.items ≡ (opened_start slots r of which since faults).rows
+    rows_same : map keyed_row r.rows.items ≡ (opened_start slots r of which since faults fit).rows
     unfolding opened_start
     rows_same = refl
 
@@ -184,10 +185,10 @@ module _ (slots : ℕ) (r : Recovered) where
         → StandsFor (shown tells disk faults device) start (device_share start []) → ArePartsOf slots r parts → (values : List (Part D)) → values ≡ in_order device parts
         → AllStand (part_stands tells disk faults) start values []
     all_stand is parts device_is are values same o x at =
-        each tells disk faults start (is_start d.shards d.shard d.opened d.begun is) device parts device_is
-        (subst (directory.Stands parts.directory) (directory_same d.shards d.shard d.opened d.begun) are.directory_is) (are.count ∙ slots_same d.shards d.shard d.opened d.begun)
-        (subst (λ rows. CellsStand rows parts.cells.items) (rows_same d.shards d.shard d.opened d.begun) are.series)
-        (subst (journal.Stands parts.journal.pending) (journal_same d.shards d.shard d.opened d.begun) are.journal_is) o x (ap (λ l. slice_get l o) (sym same) ∙ at)
+        each tells disk faults start (is_start d.shards d.shard d.opened d.begun (is_fit d.shards d.shard d.given) is) device parts device_is
+        (subst (directory.Stands parts.directory) (directory_same d.shards d.shard d.opened d.begun (is_fit d.shards d.shard d.given)) are.directory_is) (are.count ∙ slots_same d.shards d.shard d.opened d.begun (is_fit d.shards d.shard d.given))
+        (subst (λ rows. CellsStand rows parts.cells.items) (rows_same d.shards d.shard d.opened d.begun (is_fit d.shards d.shard d.given)) are.series)
+        (subst (journal.Stands parts.journal.pending) (journal_same d.shards d.shard d.opened d.begun (is_fit d.shards d.shard d.given)) are.journal_is) o x (ap (λ l. slice_get l o) (sym same) ∙ at)
 
     pub all_there : (parts : Parts) → ArePartsOf slots r parts → (values : List (Part D)) → values ≡ in_order device parts → length values ≡ objects start
-    all_there parts are values same = ap length same ∙ values_count start device parts (are.count ∙ slots_same d.shards d.shard d.opened d.begun)
+    all_there parts are values same = ap length same ∙ values_count start device parts (are.count ∙ slots_same d.shards d.shard d.opened d.begun (is_fit d.shards d.shard d.given))

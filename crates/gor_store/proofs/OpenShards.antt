@@ -1,6 +1,6 @@
 -- A shard's start, and the device among its values.
 use Rattle.std.proofs.Common.{◌≡◌, ℕ, ◌<◌, List, [], ◌∷◌, length, refl, arith, Bool, ap, ◌∙◌}
-use Rattle.gor_disk.specs.Disk.{DiskView}
+use Rattle.gor_disk.specs.Disk.{DiskView, Contents}
 use Rattle.gor_model.specs.Changes.{History}
 use Rattle.gor_model.specs.Objects.{share_of}
 use Rattle.gor_model.specs.Shares.{device_share}
@@ -14,16 +14,19 @@ use Rattle.gor_flush.specs.declared.part.Part.TheVariants as part
 use Rattle.gor_flush.proofs.PartKinds.{is_device}
 use Rattle.gor_flush.specs.Devices.{shown}
 use Rattle.gor_flush.specs.Starts.{opened_start, start_with}
+use Rattle.gor_flush.specs.FitTest.{is_fit}
 use Rattle.gor_image.specs.declared.recovered.Recovered.{Recovered}
 use Rattle.gor_store.specs.Shards.{IsFirst}
 
-pub slots_are : (slots : ℕ) (r : Recovered) (of which since faults : ℕ) → (opened_start slots r of which since faults).slots ≡ slots
+pub slots_are : (slots : ℕ) (r : Recovered) (of which since faults : ℕ) (fit : Bool) → (opened_start slots r of which since faults fit).slots ≡ slots
 unfolding opened_start
-slots_are slots r of which since faults = refl
+slots_are slots r of which since faults fit = refl
 
-pub opened_as : (slots : ℕ) (r : Recovered) (a b c d e f g h : ℕ) → a ≡ b → c ≡ d → e ≡ f → g ≡ h → opened_start slots r a c e g ≡ opened_start slots r b d f h
-opened_as slots r a b c d e f g h first second third fourth =
-    ap (λ x. opened_start slots r x c e g) first ∙ ap (λ x. opened_start slots r b x e g) second ∙ ap (λ x. opened_start slots r b d x g) third ∙ ap (λ x. opened_start slots r b d f x) fourth
+-- of the same home, files, moment and faults
+pub opened_as : (slots : ℕ) (r : Recovered) (a b c d e f g h : ℕ) (x y : Contents) → a ≡ b → c ≡ d → e ≡ f → g ≡ h → x ≡ y → opened_start slots r a c e g (is_fit a c x) ≡ opened_start slots r b d f h (is_fit b d y)
+opened_as slots r a b c d e f g h x y first second third fourth fifth =
+    ap (λ n. opened_start slots r n c e g (is_fit n c x)) first ∙ ap (λ n. opened_start slots r b n e g (is_fit b n x)) second ∙ ap (λ n. opened_start slots r b d n g (is_fit b d x)) third
+    ∙ ap (λ n. opened_start slots r b d f n (is_fit b d x)) fourth ∙ ap (λ (z : Contents). opened_start slots r b d f h (is_fit b d z)) fifth
 
 pub start_same : {D : Type 0} (tells : Bool) (disk : D → DiskView) (faults : D → ℕ) (s slots : ℕ) (q r : Recovered) (d device : Device D) → s ≡ slots → q ≡ r → d ≡ device
     → start_with s q (shown tells disk faults d) ≡ start_with slots r (shown tells disk faults device)

@@ -75,6 +75,6 @@ pub raised_start : (slots : ℕ) (r : Recovered) (rows : List RecoveredRow) (old
     → Stands old (directory_share (rows_start slots (map keyed_row rows)) []) → Stands new (directory_share (recovered_start slots r) [])
 unfolding recovered_start unused_slots
 raised_start slots r rows old new is raises stands =
-    raises (rows_start slots (map keyed_row rows)) stands ∙ (λ i. directory_share (record { slots = slots; floor = zero-max r.floor i; next = 1; rows = map keyed_row (is i); shards = 0; shard = 0; since = 0; faults = 0 }) []) ∙ other where
-      other : directory_share (record { slots = slots; floor = r.floor; next = 1; rows = map keyed_row r.rows.items; shards = 0; shard = 0; since = 0; faults = 0 }) [] ≡ directory_share (recovered_start slots r) []
+    raises (rows_start slots (map keyed_row rows)) stands ∙ (λ i. directory_share (record { slots = slots; floor = zero-max r.floor i; next = 1; rows = map keyed_row (is i); shards = 0; shard = 0; since = 0; faults = 0; fit = false }) []) ∙ other where
+      other : directory_share (record { slots = slots; floor = r.floor; next = 1; rows = map keyed_row r.rows.items; shards = 0; shard = 0; since = 0; faults = 0; fit = false }) [] ≡ directory_share (recovered_start slots r) []
       other = refl

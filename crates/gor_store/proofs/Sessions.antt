@@ -13,10 +13,12 @@ use Rattle.gor_model.specs.Lists.{EachBefore}
 use Rattle.gor_model.specs.Shares.{DoneAt, device_share}
 use Rattle.gor_model.proofs.KeptLaws.{changes_split}
 use Rattle.gor_model.proofs.NumberedLaws.{device_at}
-use Rattle.gor_image.specs.Fit.{FitHolds}
+use Rattle.gor_image.specs.Fit.{IsFitFor, FitHolds}
 use Rattle.gor_image.specs.declared.recovered.Recovered.{Recovered}
 use Rattle.gor_flush.specs.Devices.{Shown, shown, device_stands, StandsFor, RunsBy, IsRunning, SettledBy, IsSettled, HoldsAll, HoldsPrefix, HoldsExactly, Prefixes, NoneAbove, Kept, last_count}
 use Rattle.gor_flush.specs.Starts.{opened_start}
+use Rattle.gor_flush.specs.FitTest.{is_fit}
+use Rattle.gor_flush.proofs.FitTests.{fit_is_told}
 use Rattle.gor_flush.proofs.Keeping.{longer}
 use Rattle.gor_hall.specs.declared.pass.Pass.{Pass}
 use Rattle.gor_hall.specs.Closings.{IsWholeHistory}
@@ -31,7 +33,7 @@ use Rattle.gor_store.specs.Lanes.{AreTaken}
 use Rattle.gor_store.specs.Lines.{is_taken}
 use Rattle.gor_store.specs.Shards.{BeginsFrom, HasClosed}
 use Rattle.gor_store.specs.Stories.{served_in, HistoryBegins, IsOneHistory}
-use Rattle.gor_store.specs.Sessions.{dones_of, WasFitAt, HoldsSince, NeverFalls, KeepsItsWord, HoldsAllNow, SessionEnds, IsToldBy, HaveServed, SessionStands, SessionIsWhole}
+use Rattle.gor_store.specs.Sessions.{dones_of, HoldsSince, NeverFalls, KeepsItsWord, HoldsAllNow, SessionEnds, IsToldBy, HaveServed, SessionStands, SessionIsWhole}
 use Rattle.gor_store.specs.Works.{IsAmong}
 use Rattle.gor_store.proofs.LastEvents.{later_is_last}
 use Rattle.gor_store.proofs.StoryLists.{same_tails}
@@ -168,7 +170,7 @@ module _ (d : Shown) (start : Start) (h : History) where
   never_fall [] kept = tt
   never_fall (done ∷ older) kept = (none_above done older kept.3 kept.4, never_fall older kept.4)
 
-  module _ (stood : StandsFor d start (device_share start h)) (t : IsTrue d.tells) (fit : WasFitAt d.shards d.shard d.opened d.disk) where
+  module _ (stood : StandsFor d start (device_share start h)) (t : IsTrue d.tells) (fit : start.fit ≡ true) where
     holds : HoldsAll d start (device_share start h)
     holds = stood.images t fit
 
@@ -195,37 +197,43 @@ module _ (d : Shown) (start : Start) (h : History) where
 
 -- ---- the start
 
-module _ (slots : ℕ) (r : Recovered) (shards shard since faults : ℕ) where
-  of_shards : (opened_start slots r shards shard since faults).shards ≡ shards
+module _ (slots : ℕ) (r : Recovered) (shards shard since faults : ℕ) (fit : Bool) where
+  of_shards : (opened_start slots r shards shard since faults fit).shards ≡ shards
   unfolding opened_start
   of_shards = refl
 
-  of_shard : (opened_start slots r shards shard since faults).shard ≡ shard
+  of_shard : (opened_start slots r shards shard since faults fit).shard ≡ shard
   unfolding opened_start
   of_shard = refl
 
-  of_since : (opened_start slots r shards shard since faults).since ≡ since
+  of_since : (opened_start slots r shards shard since faults fit).since ≡ since
   unfolding opened_start
   of_since = refl
 
-  of_faults : (opened_start slots r shards shard since faults).faults ≡ faults
+  of_faults : (opened_start slots r shards shard since faults fit).faults ≡ faults
   unfolding opened_start
   of_faults = refl
 
--- it says of which shard it is, when that was opened, and how often its disk had failed then
-pub record SaysWhen (shards shard since faults : ℕ) (start : Start) : Type 0 where
+  of_fit : (opened_start slots r shards shard since faults fit).fit ≡ fit
+  unfolding opened_start
+  of_fit = refl
+
+-- it says of which shard it is, when that was opened, how often its disk had failed then, and that its files were fit
+pub record SaysWhen (shards shard since faults : ℕ) (given : Contents) (start : Start) : Type 0 where
   pub shards_are : shards ≡ start.shards
   pub shard_is : shard ≡ start.shard
   pub since_is : since ≡ start.since
   pub faults_are : faults ≡ start.faults
+  pub fit_is : IsFitFor shards shard given → start.fit ≡ true
 
 pub says_when : (shards shard slots : ℕ) (tells : Bool) (disk : DiskView) (faults : ℕ) (start : Start) → BeginsFrom shards shard slots tells disk faults start
-    → SaysWhen shards shard disk.moment faults start
+    → SaysWhen shards shard disk.moment faults disk.seen start
 says_when shards shard slots tells disk faults start b = record {
-  shards_are = sym (ap (λ (z : Start). z.shards) b.same ∙ of_shards slots b.recovered shards shard disk.moment faults);
-  shard_is = sym (ap (λ (z : Start). z.shard) b.same ∙ of_shard slots b.recovered shards shard disk.moment faults);
-  since_is = sym (ap (λ (z : Start). z.since) b.same ∙ of_since slots b.recovered shards shard disk.moment faults);
-  faults_are = sym (ap (λ (z : Start). z.faults) b.same ∙ of_faults slots b.recovered shards shard disk.moment faults);
+  shards_are = sym (ap (λ (z : Start). z.shards) b.same ∙ of_shards slots b.recovered shards shard disk.moment faults (is_fit shards shard disk.seen));
+  shard_is = sym (ap (λ (z : Start). z.shard) b.same ∙ of_shard slots b.recovered shards shard disk.moment faults (is_fit shards shard disk.seen));
+  since_is = sym (ap (λ (z : Start). z.since) b.same ∙ of_since slots b.recovered shards shard disk.moment faults (is_fit shards shard disk.seen));
+  faults_are = sym (ap (λ (z : Start). z.faults) b.same ∙ of_faults slots b.recovered shards shard disk.moment faults (is_fit shards shard disk.seen));
+  fit_is = λ fit. ap (λ (z : Start). z.fit) b.same ∙ of_fit slots b.recovered shards shard disk.moment faults (is_fit shards shard disk.seen) ∙ (fit_is_told shards shard disk.seen).1 fit;
 }
 
 -- ---- the laws
@@ -251,13 +259,13 @@ module _ {D : Type 0} (tells : Bool) (view : D → DiskView) (faults : D → ℕ
     came_later : IsTrue tells → since ≤ (view new).moment
     came_later t = at_home (λ z. z.2 ≤ z.3.moment) (stood.since t)
 
-    kept_word : IsTrue tells → WasFitAt shards shard since (view new) → KeepsItsWord shards shard since (view new) start h
-    kept_word t = at_home (λ z. WasFitAt z.0 z.1 z.2 z.3 → KeepsItsWord z.0 z.1 z.2 z.3 start h) (keeps d start h stood t)
+    kept_word : IsTrue tells → start.fit ≡ true → KeepsItsWord shards shard since (view new) start h
+    kept_word t fit = at_home (λ z. KeepsItsWord z.0 z.1 z.2 z.3 start h) (keeps d start h stood t fit)
 
-    ended : (stopped : Option ℕ) (printed : History) → Ends h printed stopped → SessionEnds shards shard since tells (view new) start h stopped
-    ended stopped printed e = record {
+    ended : (given : Contents) → (IsFitFor shards shard given → start.fit ≡ true) → (stopped : Option ℕ) (printed : History) → Ends h printed stopped → SessionEnds shards shard given tells (view new) start h stopped
+    ended given fit_is stopped printed e = record {
       stops = e.stops;
-      all = λ none t. at_home (λ z. WasFitAt z.0 z.1 z.2 z.3 → HoldsAllNow z.0 z.1 z.3 start h) (λ fit. all_now d start h stood t fit (e.stops ∙ ap is_some none) (e.takes none));
+      all = λ none t fit. at_home (λ z. HoldsAllNow z.0 z.1 z.3 start h) (all_now d start h stood t (fit_is fit) (e.stops ∙ ap is_some none) (e.takes none));
     }
 
   module _ (before : ℕ) (faults_are : before ≡ start.faults) where
@@ -281,7 +289,7 @@ session_stands tells view faults slots old new start passes phases last text beg
         rose = rose tells view faults start passes new closed (faults old) w.faults_are;
         still = still tells view faults start passes new closed (faults old) w.faults_are;
         later = came_later tells view faults start passes new closed 1 0 (view old).moment w.shards_are w.shard_is w.since_is;
-        kept = kept_word tells view faults start passes new closed 1 0 (view old).moment w.shards_are w.shard_is w.since_is;
+        kept = λ t fit. kept_word tells view faults start passes new closed 1 0 (view old).moment w.shards_are w.shard_is w.since_is t (w.fit_is fit);
       },
       t.0,
       t.1,
@@ -293,7 +301,7 @@ others_none : (events : List Numbered) (lane : ℕ) → lane < 8 → only_last e
 others_none events lane below = ap (λ (b : Bool). if b then events else []) (ne_eqb lane 8 (λ (is : lane ≡ 8). omega (arith, is, below)))
 
 pub session_is_whole : {D : Type 0} (tells : Bool) (view : D → DiskView) (faults : D → ℕ) → SessionIsWhole tells view faults
-session_is_whole tells view faults shards shard since new start passes phases text stopped events shards_are shard_is since_is taken served closes closed =
+session_is_whole tells view faults shards shard given new start passes phases text stopped events shards_are shard_is fit_is taken served closes closed =
     let g : IsOneHistory 0 start closed.history served.runs events = work_is_closed 0 start passes closed.history served.runs (only_last events) served.work (others_none events) closed.whole in
     let all : Ends (g.later ++ g.printed) g.printed stopped = ends start g.printed g.later stopped events g.last_are closes (subst (Legal start) (sym g.whole) closed.whole.0) in
     let e : Ends closed.history g.printed stopped = subst (λ (H : History). Ends H g.printed stopped) g.whole all in (
@@ -303,5 +311,5 @@ session_is_whole tells view faults shards shard since new start passes phases te
         adds = e.adds;
       },
       refl,
-      ended tells view faults start passes new closed shards shard since shards_are shard_is since_is stopped g.printed e,
+      ended tells view faults start passes new closed shards shard start.since shards_are shard_is refl given fit_is stopped g.printed e,
     )

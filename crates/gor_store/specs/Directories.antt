@@ -1,5 +1,5 @@
 -- The directory of recovered series.
-use Rattle.std.specs.Prelude.{ℕ, List, [], max}
+use Rattle.std.specs.Prelude.{ℕ, List, [], max, false}
 use Rattle.std.specs.List.{AllByRecursion}
 use Rattle.gor_model.specs.Shares.{directory_share}
 use Rattle.gor_model.specs.Starts.{IsRow, AreApart}
@@ -17,7 +17,7 @@ pub record AreRows (slots : ℕ) (rows : List (List ℕ × Row)) : Type 0 where
 
 -- the start with these rows and the floor 0
 abbrev pub rows_start : ℕ → List (List ℕ × Row) → Start
-rows_start slots rows = record { slots = slots; floor = 0; next = 1; rows = rows; shards = 0; shard = 0; since = 0; faults = 0 }
+rows_start slots rows = record { slots = slots; floor = 0; next = 1; rows = rows; shards = 0; shard = 0; since = 0; faults = 0; fit = false }
 
 -- a directory takes up one row more
 abbrev pub RestoresRow : Listing → Listing → RecoveredRow → Type 0

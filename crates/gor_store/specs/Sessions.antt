@@ -1,7 +1,7 @@
 -- One session of a shard: from the moment at which its disk was handed in until it comes back.
 use Rattle.std.specs.Prelude.{◌≡◌, ℕ, ◌≤◌, List, ◌++◌, map, Option, None, is_some, Bool, true, false, IsTrue, filter_map}
 use Rattle.std.specs.List.{AllByRecursion}
-use Rattle.gor_disk.specs.Disk.{DiskView, Contents, IsImageAt, LeavesSince, NothingPending, Rose}
+use Rattle.gor_disk.specs.Disk.{DiskView, Contents, LeavesSince, NothingPending, Rose}
 use Rattle.gor_model.specs.declared.event.Event.{Event}
 use Rattle.gor_model.specs.declared.start.Start.{Start}
 use Rattle.gor_model.specs.Answers.{Legal, is_stopped}
@@ -27,10 +27,6 @@ use Rattle.gor_finish.specs.Made.{Numbered}
 abbrev pub dones_of : History → List DoneAt
 dones_of h = filter_map (λ (e : Event). done_at e.call e.reply) h
 
--- as the disk that came back tells of the moment at which it was handed in, its files were fit
-abbrev pub WasFitAt : ℕ → ℕ → ℕ → DiskView → Type 0
-WasFitAt shards shard since disk = (image : Contents) → IsImageAt disk since image → IsFitFor shards shard image
-
 -- from this moment on every image is fit, and holds the state after a prefix of the changes that has at least so many of them
 abbrev pub HoldsSince : ℕ → ℕ → ℕ → DiskView → Start → History → ℕ → Type 0
 HoldsSince shards shard since disk start h n = LeavesSince since disk (HoldsPrefix shards shard start (changes h) n)
@@ -54,19 +50,21 @@ pub record HoldsAllNow (shards shard : ℕ) (disk : DiskView) (start : Start) (h
   pub all : LeavesSince disk.moment disk (λ image. FitHolds shards shard image start (changes h))
 
 -- A legal history from what the disk recovered to as it was handed in. A Stop stands in it only where the disk's faults rose,
--- and else they are as they were. Where the disk tells its contents and its files were fit, it keeps its word.
+-- and else they are as they were. Where the disk tells its contents and its files were fit as it was handed in, it keeps its
+-- word.
 pub record Session {D : Type 0} (shards shard slots : ℕ) (tells : Bool) (view : D → DiskView) (faults : D → ℕ) (old new : D) (start : Start) (h : History) : Type 0 where
   pub begins : BeginsFrom shards shard slots tells (view old) (faults old) start
   pub legal : Legal start h
   pub rose : is_stopped h ≡ true → Rose (faults old) (faults new)
   pub still : is_stopped h ≡ false → faults new ≡ faults old
   pub later : IsTrue tells → (view old).moment ≤ (view new).moment
-  pub kept : IsTrue tells → WasFitAt shards shard (view old).moment (view new) → KeepsItsWord shards shard (view old).moment (view new) start h
+  pub kept : IsTrue tells → IsFitFor shards shard (view old).seen → KeepsItsWord shards shard (view old).moment (view new) start h
 
--- A last flush ended it: a Stop stands exactly where it was not answered, and where it was, the disk holds all changes.
-pub record SessionEnds (shards shard since : ℕ) (tells : Bool) (disk : DiskView) (start : Start) (h : History) (stopped : Option ℕ) : Type 0 where
+-- A last flush ended it: a Stop stands exactly where it was not answered; and where it was, the disk holds all changes, if the
+-- files that were handed in were fit.
+pub record SessionEnds (shards shard : ℕ) (given : Contents) (tells : Bool) (disk : DiskView) (start : Start) (h : History) (stopped : Option ℕ) : Type 0 where
   pub stops : is_stopped h ≡ is_some stopped
-  pub all : stopped ≡ None → IsTrue tells → WasFitAt shards shard since disk → HoldsAllNow shards shard disk start h
+  pub all : stopped ≡ None → IsTrue tells → IsFitFor shards shard given → HoldsAllNow shards shard disk start h
 
 -- ---- the text
 
@@ -106,7 +104,7 @@ module _ {D : Type 0} (tells : Bool) (view : D → DiskView) (faults : D → ℕ
 
   -- where nothing but a last flush came after the phases
   abbrev pub SessionIsWhole : Type 0
-  SessionIsWhole = (shards shard since : ℕ) (new : D) (start : Start) (passes : List Pass) (phases : List (List (List Line))) (text : List ℕ) (stopped : Option ℕ) (events : List Numbered)
-      → shards ≡ start.shards → shard ≡ start.shard → since ≡ start.since → AllByRecursion (AllByRecursion AreTaken) phases
+  SessionIsWhole = (shards shard : ℕ) (given : Contents) (new : D) (start : Start) (passes : List Pass) (phases : List (List (List Line))) (text : List ℕ) (stopped : Option ℕ) (events : List Numbered)
+      → shards ≡ start.shards → shard ≡ start.shard → (IsFitFor shards shard given → start.fit ≡ true) → AllByRecursion (AllByRecursion AreTaken) phases
       → (served : HaveServed passes phases (only_last events) text) → ClosesBy stopped events → (closed : HasClosed tells view faults start 9 passes new)
-      → (told : IsToldWhole start phases text closed.history) × (told.told.transcript.served ≡ served_in served.runs) × SessionEnds shards shard since tells (view new) start closed.history stopped
+      → (told : IsToldWhole start phases text closed.history) × (told.told.transcript.served ≡ served_in served.runs) × SessionEnds shards shard given tells (view new) start closed.history stopped

@@ -15,15 +15,16 @@ use Rattle.gor_hall.specs.declared.pass.Pass.{Pass}
 use Rattle.gor_hall.specs.Closings.{IsWholeHistory}
 use Rattle.gor_hall.specs.Halls.{lanes_of, IsPassOf, IsFirstPass}
 use Rattle.gor_hall.specs.Passes.{held, lane_of}
+use Rattle.gor_flush.specs.FitTest.{is_fit}
 use Rattle.gor_image.specs.Recovered.{IsRecovered}
 use Rattle.gor_image.specs.declared.recovered.Recovered.{Recovered}
 
 -- The history begins from what the files of a shard recover to, which is what they hold where the disk tells them, at the
--- moment at which the disk was handed in, when it had failed so often.
+-- moment at which the disk was handed in, when it had failed so often; and its start says whether these files were fit.
 pub record BeginsFrom (shards shard slots : ℕ) (tells : Bool) (disk : DiskView) (faults : ℕ) (start : Start) : Type 0 where
   pub recovered : Recovered
   pub sound : IsRecovered shards shard slots recovered
-  pub same : start ≡ opened_start slots recovered shards shard disk.moment faults
+  pub same : start ≡ opened_start slots recovered shards shard disk.moment faults (is_fit shards shard disk.seen)
   pub found : IsTrue tells → Found shards shard slots disk.seen recovered
 
 module _ {V : Type 0} where

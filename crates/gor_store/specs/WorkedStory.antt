@@ -1,5 +1,5 @@
 -- A story worked out: two lanes that read an absent name, their numbers crosswise, and a flush of lane 8 at the end.
-use Rattle.std.specs.Prelude.{ℕ, List, [], ◌∷◌, None}
+use Rattle.std.specs.Prelude.{ℕ, List, [], ◌∷◌, None, false}
 use Rattle.gor_model.specs.declared.event.Event.{Event}
 use Rattle.gor_model.specs.declared.event.Call.{Call}
 use Rattle.gor_model.specs.declared.event.Call.TheVariants as call
@@ -14,7 +14,7 @@ use Rattle.gor_finish.specs.Made.{Numbered}
 use Rattle.gor_store.specs.Stories.{LaneRun, IsStory}
 
 abbrev pub empty_start : Start
-empty_start = record { slots = 4; floor = 0; rows = []; next = 1; shards = 0; shard = 0; since = 0; faults = 0 }
+empty_start = record { slots = 4; floor = 0; rows = []; next = 1; shards = 0; shard = 0; since = 0; faults = 0; fit = false }
 
 abbrev pub event_of : ℕ → Call → Reply → Event
 event_of lane call reply = record { lane = lane; slot = None; call = call; reply = reply }

@@ -10,8 +10,6 @@ use Rattle.gor_finish.specs.Made.{Numbered}
 use Rattle.gor_hall.specs.declared.pass.Pass.{Pass}
 use Rattle.gor_hall.specs.Halls.{start_of}
 use Rattle.gor_hall.specs.Passes.{made}
-use Rattle.gor_flush.specs.Starts.{opened_start}
-use Rattle.gor_image.specs.declared.recovered.Recovered.{Recovered}
 use Rattle.gor_model.specs.declared.event.Event.{Event}
 use Rattle.gor_model.specs.declared.start.Start.{Start}
 use Rattle.gor_text.specs.Transcripts.{Served}
@@ -27,6 +25,7 @@ use Rattle.gor_store.specs.Stores.{IsSameStore, ComeBack, HasFlushed, others_of,
 use Rattle.gor_store.specs.Stories.{AllFrom, count_all, served_in}
 use Rattle.gor_store.specs.Works.{HaveAdded, IsAmong, nothing}
 use Rattle.gor_store.specs.declared.store.Store.{Store}
+use Rattle.gor_store.proofs.Sessions.{says_when}
 use Rattle.gor_store.proofs.StoryLists.{all_front}
 use Rattle.gor_store.proofs.Works.{last_is_done, work_is_counted}
 use Rattle.gorilla.specs.Dumps.{CallsFirst}
@@ -120,20 +119,6 @@ has_ended tells view faults old new stopped disks same flushed back = record {
   closed = subst (λ (start : Start). HasClosed tells view faults start 9 (passes_of new) back.disk) (ap start_of same.hall) back.closed;
 }
 
--- ---- the home and the moment of a start
-
-shards_of : (slots : ℕ) (r : Recovered) (shards shard since faults : ℕ) → (opened_start slots r shards shard since faults).shards ≡ shards
-unfolding opened_start
-shards_of slots r shards shard since faults = refl
-
-shard_of : (slots : ℕ) (r : Recovered) (shards shard since faults : ℕ) → (opened_start slots r shards shard since faults).shard ≡ shard
-unfolding opened_start
-shard_of slots r shards shard since faults = refl
-
-since_of : (slots : ℕ) (r : Recovered) (shards shard since faults : ℕ) → (opened_start slots r shards shard since faults).since ≡ since
-unfolding opened_start
-since_of slots r shards shard since faults = refl
-
 taken_lines : (phases : List (List (List Line))) → AreTakenPhases phases → AllByRecursion (AllByRecursion AreTaken) phases
 taken_lines phases taken = all-map IsTakenPhase (AllByRecursion AreTaken) (λ lanes t. t.taken) phases taken
 
@@ -155,10 +140,8 @@ module _ {D : Type 0} (tells : Bool) (view : D → DiskView) (faults : D → ℕ
       let start = start_of store.hall in
       let all = served_whole (passes_of store) e.passes phases text e.events served e.added e.from in
       let session = stands slots first e.disk start e.passes phases (only_last e.events) text begins taken all e.closed in
-      let shards = ap (λ (s : Start). s.shards) begins.same ∙ shards_of slots begins.recovered 1 0 (view first).moment (faults first) in
-      let shard = ap (λ (s : Start). s.shard) begins.same ∙ shard_of slots begins.recovered 1 0 (view first).moment (faults first) in
-      let since = ap (λ (s : Start). s.since) begins.same ∙ since_of slots begins.recovered 1 0 (view first).moment (faults first) in
-      let whole = is_whole 1 0 (view first).moment e.disk start e.passes phases text stopped e.events (sym shards) (sym shard) (sym since) taken all e.closes e.closed in
+      let when = says_when 1 0 slots tells (view first) (faults first) start begins in
+      let whole = is_whole 1 0 (view first).seen e.disk start e.passes phases text stopped e.events when.shards_are when.shard_is when.fit_is taken all e.closes e.closed in
       record {
         held = record { start = start; history = e.closed.history; session = session.0; told = whole.0; ends = whole.2 };
         same = whole.1 ∙ ap served_in (whole_runs (passes_of store) e.passes phases text e.events served e.added e.from);

@@ -56,7 +56,7 @@ module _ {D : Type 0} (tells : Bool) (view : D → DiskView) (faults : D → ℕ
     pub history : History
     pub session : Session 1 0 slots tells view faults disk now start history
     pub told : IsToldWhole start phases text history
-    pub ends : SessionEnds 1 0 (view disk).moment tells (view now) start history stopped
+    pub ends : SessionEnds 1 0 (view disk).seen tells (view now) start history stopped
 
   -- ---- what a session writes, by how it ended; phases that were not run are `rest`
 

@@ -1,3 +1,4 @@
+use Rattle.gor_flush.proofs.FitTests.{fit_is_told}
 use Rattle.gor_flush.proofs.Starting.{call_keeps, done_extends, step_keeps, taken_may_write}
 use Rattle.gor_flush.proofs.flush_laws.laws.Goals as goal
 
@@ -12,3 +13,6 @@ returns-clause-done c = done_extends
 
 pub returns-clause-step : goal.returns-clause-step
 returns-clause-step c = step_keeps
+
+pub returns-clause-fit : goal.returns-clause-fit
+returns-clause-fit c = fit_is_told

@@ -6,6 +6,7 @@ use Rattle.gor_hall.specs.Openings.{AllStand}
 use Rattle.gor_flush.specs.Devices.{shown}
 use Rattle.gor_flush.specs.Parts.{part_stands}
 use Rattle.gor_flush.specs.declared.part.Part.{Part}
+use Rattle.gor_flush.specs.FitTest.{is_fit}
 use Rattle.gor_store.proofs.InOrder.{is_start}
 use Rattle.gor_store.proofs.OpenShards.{slots_are, start_same}
 use Rattle.gor_store.proofs.shards.open_hall.Goals as goal
@@ -15,14 +16,14 @@ open-requires-clause-start g c =
     let first = shown g.D.Disk.tells g.D.Disk.view g.D.Disk.faults c.args.device in
     let same = start_same g.D.Disk.tells g.D.Disk.view g.D.Disk.faults c.of-start.result.slots c.args.slots c.of-start.result.found.value c.args.recovered c.of-start.result.device.value c.args.device
     c.of-start.ensures.slots c.of-start.ensures.found c.of-start.ensures.device in
-    subst IsStart (sym same) (is_start c.args.slots c.args.recovered first.shards first.shard first.opened first.begun c.requires.start)
+    subst IsStart (sym same) (is_start c.args.slots c.args.recovered first.shards first.shard first.opened first.begun (is_fit first.shards first.shard first.given) c.requires.start)
 
 pub open-requires-clause-values : goal.open-requires-clause-values
 open-requires-clause-values g c =
     let first = shown g.D.Disk.tells g.D.Disk.view g.D.Disk.faults c.args.device in
     let same = start_same g.D.Disk.tells g.D.Disk.view g.D.Disk.faults c.of-start.result.slots c.args.slots c.of-start.result.found.value c.args.recovered c.of-start.result.device.value c.args.device
     c.of-start.ensures.slots c.of-start.ensures.found c.of-start.ensures.device in
-    let count = slots_are c.args.slots c.args.recovered first.shards first.shard first.opened first.begun in
+    let count = slots_are c.args.slots c.args.recovered first.shards first.shard first.opened first.begun (is_fit first.shards first.shard first.given) in
     let there = c.in_ok-values.ensures.len in
     let few = c.requires.slots in
     (there ∙ ap objects (sym same), omega (arith, there, count, few))

@@ -9,12 +9,12 @@ pub returns-in-Ok-open_hall-clause-start : goal.returns-in-Ok-open_hall-clause-s
 returns-in-Ok-open_hall-clause-start g c = record {
   recovered = c.in-Ok.found.1;
   sound = c.in-Ok.ensures.recovered;
-  same = c.in-Ok-open_hall.ensures.start ∙ opened_as c.args.slots c.in-Ok.found.1 _ _ _ _ _ _ _ _ c.in-Ok.ensures.begins.shards_are c.in-Ok.ensures.begins.shard_is c.in-Ok.ensures.begins.opened c.in-Ok.ensures.begins.begun;
+  same = c.in-Ok-open_hall.ensures.start ∙ opened_as c.args.slots c.in-Ok.found.1 _ _ _ _ _ _ _ _ _ _ c.in-Ok.ensures.begins.shards_are c.in-Ok.ensures.begins.shard_is c.in-Ok.ensures.begins.opened c.in-Ok.ensures.begins.begun c.in-Ok.ensures.begins.given;
   found = c.in-Ok.ensures.found;
 }
 
 pub returns-in-Ok-open_hall-clause-count : goal.returns-in-Ok-open_hall-clause-count
-returns-in-Ok-open_hall-clause-count g c = ap (λ (s : Start). s.slots) c.in-Ok-open_hall.ensures.start ∙ slots_are c.args.slots _ _ _ _ _
+returns-in-Ok-open_hall-clause-count g c = ap (λ (s : Start). s.slots) c.in-Ok-open_hall.ensures.start ∙ slots_are c.args.slots _ _ _ _ _ _
 
 pub returns-in-Err-open_hall-clause-held : goal.returns-in-Err-open_hall-clause-held
 returns-in-Err-open_hall-clause-held g c t =

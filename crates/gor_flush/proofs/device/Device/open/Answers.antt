@@ -38,10 +38,9 @@ returns-in-Ok-clause-device g c =
       written = e.written;
       faults = ap g.D.Disk.faults (e.disk ∙ sym c.of-begun.ensures ∙ sym e.begun);
     })
-    (ap (λ x. (g.D.Disk.view x).moment) (e.first ∙ c.of-first.ensures))
+    (ap (λ x. (g.D.Disk.view x).moment) (e.first ∙ c.of-first.ensures)) (ap (λ x. (g.D.Disk.view x).seen) (e.first ∙ c.of-first.ensures))
     (λ t. record {
       goes = subst (λ (v : DiskView). GoesOn old v) (ap g.D.Disk.view (sym e.disk)) (c.get_ready.ensures.goes t);
-      stays = λ f. g.met.D.Disk.seen_may_stay c.args.disk f t;
       holds = moved (λ a b (v : DiskView). HoldsOn a b old.seen old v) c.args.shards d.shards c.args.shard d.shard (g.D.Disk.view disk) (g.D.Disk.view d.disk) (sym e.shards) (sym e.shard) (ap g.D.Disk.view (sym e.disk)) (c.get_ready.ensures.held t);
       found = moved (λ a b (x : ℕ). Found a b x old.seen r) c.args.shards d.shards c.args.shard d.shard c.args.slots c.args.slots (sym e.shards) (sym e.shard) refl (q.found t);
       ready = moved (λ (l : List Mark) (tops : List LogTop) (v : DiskView). IsOpened d.shards d.shard old.seen l tops v) (device_marks c.args.shards c.args.shard r.marks.items) d.list.items r.tops.items d.tops.items (g.D.Disk.view disk) (g.D.Disk.view d.disk)
