@@ -1,5 +1,5 @@
 //! Gets.
-ghost use Rattle.std.specs.Prelude.{◌≡◌, ◌+◌, ◌<◌, ◌≤◌, [], ◌∷◌, IfOk, IfErr, OnErr, Err, ⊤};
+ghost use Rattle.std.specs.Prelude.{◌≡◌, ◌+◌, ◌<◌, ◌≤◌, [], ◌∷◌, IfOk, IfErr, IfSome, OnErr, Err, ⊤};
 ghost use Rattle.gor_model.specs.declared.event.Call.TheVariants as call;
 ghost use Rattle.gor_model.specs.declared.start.Move.TheVariants.{Took, Gave};
 ghost use Rattle.gor_model.specs.Names.{key_of};
@@ -7,9 +7,9 @@ ghost use Rattle.gor_hall.specs.Halls.{IsPassOf, start_of};
 ghost use Rattle.gor_hall.specs.Passes.{held, lane_of, left_of_pass, moves};
 ghost use Rattle.gor_cell.specs.Steps.{copied_points};
 ghost use Rattle.gor_point.specs.declared.gets.GetFault.TheVariants.{Range};
-ghost use Rattle.gor_point.specs.Gets.{LooksUp, ReadsIfThere, Answers, KeepsDirectory, HasReply, WasRead};
+ghost use Rattle.gor_point.specs.Gets.{LooksUp, ReadsIfThere, Answers, KeepsDirectory, HasPaused, HasReply, WasRead};
 ghost use Rattle.gor_point.specs.Moves.{AddsMoves, ReadsApart};
-ghost use Rattle.gor_point.specs.Points.{IsReady, IsBack, Makes, MakesNone, get_reply, GetRefused};
+ghost use Rattle.gor_point.specs.Points.{IsReady, IsBack, Makes, MakesNone, get_reply, GetRefused, HasPoints, PausesIfMade};
 
 use crate::parts::{Shard, take_directory, take_series};
 use crate::reads::{Found, Lookup, Read, Wanted, look_in, miss, read_in, read_kept, slot_in};
@@ -81,6 +81,7 @@ pub(crate) fn read_at<D: Disk, P: Pause, R: Wait>(
     requires slot { slot < (start_of shard.now).slots }
     ensures pass { IsBack shard.now pass.old pass.new }
     ensures read { IfOk result (ReadsIfThere pass.old wanted.now pass.new) }
+    ensures paused { IfOk result (λ read. IfSome read (λ r. P.called pause.now (lane_of pass.old) place r.number)) }
     ensures none { OnErr result (MakesNone pass.old pass.new) }
     ensures moves { moves pass.new ≡ Gave (slot + 2) ∷ Took (slot + 2) ∷ moves pass.old }
 {
@@ -100,6 +101,7 @@ pub(crate) fn read_again<D: Disk, P: Pause, R: Wait>(
     requires pass { IsPassOf shard.now pass.old × (held pass.old ≡ []) × (0 < left_of_pass pass.old) }
     ensures pass { IsBack shard.now pass.old pass.new }
     ensures found { IfOk result (Answers pass.old wanted.now pass.new) }
+    ensures paused { IfOk result (HasPaused (P.called pause.now (lane_of pass.old) place)) }
     ensures none { OnErr result (MakesNone pass.old pass.new) }
     ensures moves { KeepsDirectory (start_of shard.now).slots pass.old pass.new }
 {
@@ -124,6 +126,7 @@ fn find<D: Disk, P: Pause, R: Wait>(
     requires pass { IsPassOf shard.now pass.old × (held pass.old ≡ []) × (0 < left_of_pass pass.old) }
     ensures pass { IsBack shard.now pass.old pass.new }
     ensures found { IfOk result (Answers pass.old wanted.now pass.new) }
+    ensures paused { IfOk result (HasPaused (P.called pause.now (lane_of pass.old) place)) }
     ensures none { OnErr result (MakesNone pass.old pass.new) }
     ensures moves { AddsMoves pass.old pass.new (ReadsApart (start_of shard.now).slots) }
 {
@@ -176,6 +179,8 @@ pub fn get<D: Disk, P: Pause, R: Wait>(
     ensures pass { IsBack shard.now pass.old pass.new }
     ensures event { IfOk result (λ r. (from ≤ to) × Makes pass.old r.number (call.Get (key_of name.now) from to) (get_reply r.answer) pass.new) }
     ensures refused { IfErr result (GetRefused pass.old (key_of name.now) from to pass.new) }
+    ensures paused { IfOk result (λ r. HasPoints r.answer → P.called pause.now (lane_of pass.old) place r.number) }
+    ensures failed { OnErr result (PausesIfMade (P.called pause.now (lane_of pass.old) place) pass.old pass.new) }
     ensures range { to < from → result ≡ Err (Range from to) }
     ensures moves { AddsMoves pass.old pass.new (ReadsApart (start_of shard.now).slots) }
 {

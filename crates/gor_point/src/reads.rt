@@ -1,5 +1,5 @@
 //! What a read does under its locks.
-ghost use Rattle.std.specs.Prelude.{◌≡◌, ◌+◌, ◌<◌, [], ◌∷◌, None, Some, true, IfOk, IfNone, OnErr};
+ghost use Rattle.std.specs.Prelude.{◌≡◌, ◌+◌, ◌<◌, [], ◌∷◌, None, Some, true, IfOk, IfSome, IfNone, OnErr};
 ghost use Rattle.gor_model.specs.declared.event.Reply.TheVariants as reply;
 ghost use Rattle.gor_model.specs.declared.start.Move.TheVariants.{Gave};
 ghost use Rattle.gor_model.specs.Names.{IsName, key_of};
@@ -11,7 +11,7 @@ ghost use Rattle.gor_cell.specs.Steps.{holds_key, copied_points};
 ghost use Rattle.gor_dir.specs.Listings.{shown};
 ghost use Rattle.gor_point.specs.Views.{HasDirectory, HasSeries, IsSound, KeepsShares};
 ghost use Rattle.gor_point.specs.Points.{Makes, MakesNone};
-ghost use Rattle.gor_point.specs.Gets.{get_call, Reads, ReadsIfThere, LooksUp, IsNoMiss, slot_of};
+ghost use Rattle.gor_point.specs.Gets.{get_call, EndsWith, Reads, ReadsIfThere, LooksUp, IsNoMiss, slot_of};
 
 use crate::parts::{Shard, give_directory, give_series};
 use gor_cell::{Cell, Copied};
@@ -104,6 +104,16 @@ pub(crate) fn miss<D: Disk>(
     number
 }
 
+// Pauses a read that holds its series, once its event is the newest. Nothing else calls a pause.
+fn pause_in<P: Pause>(pause: &P, lane: u32, place: u32, pass: &Pass, slot: u32, number: u64)
+    requires held { Has (held pass.now) (slot + 2) }
+    requires event { EndsWith pass.now slot number }
+    ensures paused { P.called pause.now lane place number }
+{
+    let _ = (pass, slot, number);
+    pause.at(lane, place);
+}
+
 // Copies the blocks of a range, makes the event, and pauses.
 fn read_cell<D: Disk, P: Pause>(
     shard: &Shard<D>,
@@ -121,6 +131,7 @@ fn read_cell<D: Disk, P: Pause>(
     requires holds { holds_key (key_of wanted.now.name.now) cell.now.live ≡ true }
     ensures pass { IsPassOf shard.now pass.new × (lane_of pass.new ≡ lane_of pass.old) × (held pass.new ≡ held pass.old) × (moves pass.new ≡ moves pass.old) }
     ensures read { IfOk result (λ read. Reads pass.old wanted.now pass.new read) }
+    ensures paused { IfOk result (λ read. P.called pause.now (lane_of pass.old) place read.number) }
     ensures shares { KeepsShares (view pass.old) (view pass.new) }
     ensures err { OnErr result (pass.new ≡ pass.old) }
 {
@@ -133,7 +144,7 @@ fn read_cell<D: Disk, P: Pause>(
         copied: &copied,
     };
     let number = shard.mark(pass, &present);
-    pause.at(lane, place);
+    pause_in(pause, lane, place, pass, slot, number);
     Ok(Read { number, copied })
 }
 
@@ -155,6 +166,7 @@ pub(crate) fn read_series<D: Disk, P: Pause>(
     ensures pass { IsPassOf shard.now pass.new × (lane_of pass.new ≡ lane_of pass.old) × (held pass.new ≡ without (slot + 2) (held pass.old)) }
     ensures moves { moves pass.new ≡ Gave (slot + 2) ∷ moves pass.old }
     ensures read { IfOk result (λ read. Reads pass.old wanted.now pass.new read) }
+    ensures paused { IfOk result (λ read. P.called pause.now (lane_of pass.old) place read.number) }
     ensures none { OnErr result (MakesNone pass.old pass.new) }
     ensures shares { KeepsShares (view pass.old) (view pass.new) }
 {
@@ -203,6 +215,7 @@ pub(crate) fn read_in<D: Disk, P: Pause>(
     requires stands { HasSeries (view pass.old) slot cell }
     ensures pass { IsPassOf shard.now pass.new × (held pass.new ≡ []) × (lane_of pass.new ≡ lane_of pass.old) }
     ensures read { IfOk result (ReadsIfThere pass.old wanted.now pass.new) }
+    ensures paused { IfOk result (λ read. IfSome read (λ r. P.called pause.now (lane_of pass.old) place r.number)) }
     ensures none { OnErr result (MakesNone pass.old pass.new) }
     ensures moves { moves pass.new ≡ Gave (slot + 2) ∷ moves pass.old }
     ensures refused { IfOk result (λ read. IfNone read (refused pass.new ≡ refused pass.old)) }
@@ -242,6 +255,7 @@ pub(crate) fn read_kept<D: Disk, P: Pause>(
     requires found { slot_of directory (key_of wanted.now.name.now) ≡ Some slot }
     ensures pass { IsPassOf shard.now pass.new × (held pass.new ≡ []) × (lane_of pass.new ≡ lane_of pass.old) }
     ensures read { IfOk result (λ read. Reads pass.old wanted.now pass.new read) }
+    ensures paused { IfOk result (λ read. P.called pause.now (lane_of pass.old) place read.number) }
     ensures none { OnErr result (MakesNone pass.old pass.new) }
     ensures moves { moves pass.new ≡ Gave 1 ∷ Gave (slot + 2) ∷ moves pass.old }
 {

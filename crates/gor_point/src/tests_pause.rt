@@ -20,6 +20,10 @@ struct Counted {
 }
 
 impl Pause for Counted {
+    ghost use Rattle.std.specs.Prelude.{⊤};
+
+    ghost called = { λ _ _ _ _. ⊤ };
+
     fn at(&self, lane: u32, place: u32) {
         self.calls.set(self.calls.get().saturating_add(1));
         self.lane.set(lane);

@@ -14,6 +14,10 @@ struct Meeting {
 }
 
 impl Pause for Meeting {
+    ghost use Rattle.std.specs.Prelude.{⊤};
+
+    ghost called = { λ _ _ _ _. ⊤ };
+
     fn at(&self, lane: u32, place: u32) {
         let _ = place;
         if lane == 1 {

@@ -1,6 +1,8 @@
-use Rattle.std.proofs.Common.{◌<◌, ℕ, sym, subst, Some}
+use Rattle.std.proofs.Common.{◌<◌, ℕ, ◌+◌, List, refl, sym, ap, ◌∙◌, subst, Some}
 use Rattle.gor_model.specs.declared.start.Start.{Start}
-use Rattle.gor_hall.specs.Passes.{view}
+use Rattle.gor_model.specs.Objects.{Has}
+use Rattle.gor_rule.specs.declared.view.View.{View}
+use Rattle.gor_hall.specs.Passes.{view, made}
 use Rattle.gor_point.specs.Gets.{found_event}
 use Rattle.gor_point.specs.Views.{HasEvent}
 use Rattle.gor_point.proofs.ViewLaws.{has_event}
@@ -12,6 +14,22 @@ mark-number-requires-clause-event g c =
     let low = subst (λ (z : Start). c.args.slot < z.slots) (sym c.requires.pass.0.start) c.requires.slot in
     let m = found_may (view c.args.pass.now) c.requires.sound c.lane-lane.result c.args.wanted.now c.args.slot low c.args.cell.now c.in_ok-copied.copied c.requires.stands c.requires.holds c.in_ok-copied.ensures c.requires.pass.2 in
     (c.lane-lane.ensures, c.requires.pass.1, m.0, m.1)
+
+pub pause_in-requires-clause-held : goal.pause_in-requires-clause-held
+pause_in-requires-clause-held g c = subst (λ (held : List ℕ). Has held (c.args.slot + 2)) (sym (ap (λ (z : View). z.held) c.mark-number.ensures.marked.2)) c.requires.pass.2
+
+pub pause_in-requires-clause-event : goal.pause_in-requires-clause-event
+pause_in-requires-clause-event g c =
+    let h = has_event (view c.args.pass.now) (view c.mark-number.new.pass) _ c.mark-number.result c.mark-number.ensures.marked in record {
+      event = found_event c.lane-lane.result c.args.slot c.args.wanted.now c.in_ok-copied.copied;
+      before = h.before;
+      earlier = made c.args.pass.now;
+      ends = h.seen;
+      number = h.number;
+      mine = h.mine;
+      lane = c.lane-lane.ensures ∙ sym c.mark-number.ensures.pass.1;
+      of = refl;
+    }
 
 pub returns-clause-read : goal.returns-clause-read
 returns-clause-read g c = record {
