@@ -3,3 +3,4 @@ pub mod Gets
 pub mod Lanes
 pub mod Puts
 pub mod Steps
+pub mod Statuses

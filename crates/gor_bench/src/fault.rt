@@ -25,8 +25,13 @@ pub enum Fault {
 }
 
 impl Fault {
+    ghost use Rattle.std.specs.Prelude.{◌≡◌};
+    ghost use Rattle.gor_bench.specs.Statuses.{status_of};
+
     /// The number with which the process ends.
-    pub fn number(self) -> u8 {
+    pub fn number(self) -> u8
+        ensures { result ≡ status_of self }
+    {
         match self {
             Fault::Words => 2,
             Fault::Memory => 4,

@@ -1,5 +1,5 @@
 //! Stores of many series, laid down on a disk in memory by the writers of their files.
-ghost use Rattle.std.specs.Prelude.{◌≤◌, IfOk, OnOk};
+ghost use Rattle.std.specs.Prelude.{◌≡◌, ◌*◌, ◌≤◌, IfOk, OnOk};
 ghost use Rattle.std.specs.List.{AllByRecursion};
 ghost use Rattle.gor_model.specs.Fields.{IsNumber};
 ghost use Rattle.gor_model.specs.Windows.{last_time_in};
@@ -32,7 +32,9 @@ const BATCH: u16 = 4;
 const BATCHES: u8 = 25;
 
 /// The points of so many windows of all series.
-pub fn points_of(windows: u8) -> u64 {
+pub fn points_of(windows: u8) -> u64
+    ensures { result ≡ windows * 100000 }
+{
     windows as u64 * 100_000
 }
 

@@ -1,4 +1,6 @@
 //! Recovery: what a shard's files hold, read back from its log and from its block files.
+ghost use Rattle.std.specs.Prelude.{◌≡◌, IfOk, length};
+
 use crate::fault::Fault;
 use crate::laying::{SERIES, lay_blocks, lay_log, points_of};
 use crate::report::{Report, Row, nanos_since, now};
@@ -92,7 +94,9 @@ fn measure_store<R: Clock>(
 }
 
 /// A log and block files, each with a hundred thousand points and with a million.
-pub fn measure<R: Clock>(rt: &R, alloc: Global) -> Result<Report, Fault> {
+pub fn measure<R: Clock>(rt: &R, alloc: Global) -> Result<Report, Fault>
+    ensures { IfOk result (λ report. length report.rows.items ≡ 4) }
+{
     let mut report = Report::new(
         alloc,
         "recovery",

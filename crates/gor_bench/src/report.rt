@@ -1,5 +1,6 @@
 //! A table of figures.
-ghost use Rattle.std.specs.Prelude.{◌<◌};
+ghost use Rattle.std.specs.Prelude.{◌≡◌, ◌+◌, ◌*◌, ◌-◌, ◌/◌, ◌^◌, ◌<◌, ◌++◌, ◌∷◌, [], length, min, IfErr, OnOk};
+ghost use Rattle.gor_bench.specs.declared.fault.Fault.TheVariants as fault;
 
 use crate::fault::Fault;
 use std::alloc::{AllocError, Global};
@@ -23,7 +24,10 @@ pub struct Report {
 
 impl Row {
     /// A row with no figures yet.
-    pub fn new(alloc: Global, label: &'static str) -> Row {
+    pub fn new(alloc: Global, label: &'static str) -> Row
+        ensures label { result.label ≡ label.entry }
+        ensures figures { result.tenths.items ≡ [] }
+    {
         Row {
             label,
             tenths: Vec::new(alloc),
@@ -33,6 +37,8 @@ impl Row {
     /// Adds a figure, which is `total` shared out among `count`.
     pub fn add(&mut self, total: u64, count: u64) -> Result<(), AllocError>
         requires { 0 < count }
+        ensures label { self.new.label ≡ self.old.label }
+        ensures figure { OnOk result (self.new.tenths.items ≡ self.old.tenths.items ++ min (total * 10) (2 ^ 64 - 1) / count ∷ []) }
     {
         self.tenths.push(total.saturating_mul(10) / count)?;
         Ok(())
@@ -41,7 +47,10 @@ impl Row {
 
 impl Report {
     /// A table with no rows yet.
-    pub fn new(alloc: Global, title: &'static str, columns: &'static [&'static str]) -> Report {
+    pub fn new(alloc: Global, title: &'static str, columns: &'static [&'static str]) -> Report
+        ensures title { result.title ≡ title.entry }
+        ensures rows { result.rows.items ≡ [] }
+    {
         Report {
             title,
             columns,
@@ -50,7 +59,10 @@ impl Report {
     }
 
     /// Adds a row.
-    pub fn add(&mut self, row: Row) -> Result<(), AllocError> {
+    pub fn add(&mut self, row: Row) -> Result<(), AllocError>
+        ensures row { OnOk result (self.new.rows.items ≡ self.old.rows.items ++ row ∷ []) }
+        ensures count { OnOk result (length self.new.rows.items ≡ length self.old.rows.items + 1) }
+    {
         self.rows.push(row)?;
         Ok(())
     }
@@ -82,12 +94,16 @@ fn print_row<P: Print>(rt: &P, row: &Row) -> io::Result<()> {
 }
 
 /// The clock's time now.
-pub fn now<C: Clock>(clock: &C) -> Result<Instant, Fault> {
+pub fn now<C: Clock>(clock: &C) -> Result<Instant, Fault>
+    ensures { IfErr result (λ f. f ≡ fault.Clock) }
+{
     Instant::now(clock).map_err(|_| Fault::Clock)
 }
 
 /// The nanoseconds since then.
-pub fn nanos_since<C: Clock>(clock: &C, then: Instant) -> Result<u64, Fault> {
+pub fn nanos_since<C: Clock>(clock: &C, then: Instant) -> Result<u64, Fault>
+    ensures { IfErr result (λ f. f ≡ fault.Clock) }
+{
     let passed = now(clock)?.duration_since(then);
     let seconds = passed.as_secs().saturating_mul(1_000_000_000);
     Ok(seconds.saturating_add(passed.subsec_nanos() as u64))

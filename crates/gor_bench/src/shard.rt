@@ -298,7 +298,9 @@ fn measure_lanes<R: Threads + Wait + Sync + Clock>(
 }
 
 /// One thread, then two and four with a name for each, then two and four with one name for all.
-pub fn measure<R: Threads + Wait + Sync + Clock>(rt: &R, alloc: Global) -> Result<Report, Fault> {
+pub fn measure<R: Threads + Wait + Sync + Clock>(rt: &R, alloc: Global) -> Result<Report, Fault>
+    ensures { IfOk result (λ report. length report.rows.items ≡ 5) }
+{
     let mut words = Vec::new(alloc);
     Series::new(Kind::Gauge).fill(&mut words, TURNS)?;
     let mut report = Report::new(

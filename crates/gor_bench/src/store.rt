@@ -276,7 +276,9 @@ fn measure_lanes<R: Threads + Wait + Sync>(
 }
 
 /// The same puts on one lane and on four.
-pub fn measure<R: Threads + Wait + Sync>(rt: &R, host: &HostRuntime) -> Result<Report, Fault> {
+pub fn measure<R: Threads + Wait + Sync>(rt: &R, host: &HostRuntime) -> Result<Report, Fault>
+    ensures { IfOk result (λ report. length report.rows.items ≡ 2) }
+{
     let mut report = Report::new(
         host.alloc(),
         "store",

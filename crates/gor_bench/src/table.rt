@@ -210,7 +210,9 @@ fn measure_lanes<R: Threads + Wait + Sync + Clock>(
 }
 
 /// One thread, then two and four with a series for each, then two and four with one series for all.
-pub fn measure<R: Threads + Wait + Sync + Clock>(rt: &R, alloc: Global) -> Result<Report, Fault> {
+pub fn measure<R: Threads + Wait + Sync + Clock>(rt: &R, alloc: Global) -> Result<Report, Fault>
+    ensures { IfOk result (λ report. length report.rows.items ≡ 5) }
+{
     let mut report = Report::new(
         alloc,
         "table",

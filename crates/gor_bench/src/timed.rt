@@ -1,4 +1,6 @@
 //! A disk that measures its syncs.
+ghost use Rattle.std.specs.Prelude.{◌≡◌};
+
 use crate::report::{nanos_since, now};
 use gor_disk::{Disk, DiskFailed, FileId};
 use std::time::Clock;
@@ -14,7 +16,11 @@ pub struct TimedDisk<D: Disk, C: Clock + Drop> {
 
 impl<D: Disk, C: Clock + Drop> TimedDisk<D, C> {
     /// A disk that has made nothing stable yet.
-    pub fn new(disk: D, clock: C) -> TimedDisk<D, C> {
+    pub fn new(disk: D, clock: C) -> TimedDisk<D, C>
+        ensures disk { result.disk ≡ disk }
+        ensures syncs { result.syncs ≡ 0 }
+        ensures nanos { result.nanos ≡ 0 }
+    {
         TimedDisk {
             disk,
             clock,
@@ -24,12 +30,16 @@ impl<D: Disk, C: Clock + Drop> TimedDisk<D, C> {
     }
 
     /// How often it was asked to make a file stable.
-    pub fn syncs(&self) -> u64 {
+    pub fn syncs(&self) -> u64
+        ensures { result ≡ self.now.syncs }
+    {
         self.syncs
     }
 
     /// The nanoseconds that its syncs took; one whose time is not known has none.
-    pub fn nanos(&self) -> u64 {
+    pub fn nanos(&self) -> u64
+        ensures { result ≡ self.now.nanos }
+    {
         self.nanos
     }
 }

@@ -1,4 +1,6 @@
 //! The series of words that parts measure.
+ghost use Rattle.std.specs.Prelude.{◌≡◌, OnOk, length};
+
 use std::alloc::AllocError;
 use std::num::nearest_u64_to_f64;
 
@@ -46,7 +48,9 @@ fn double_bits(number: u64, among: f64) -> u64 {
 
 impl Series {
     /// The series of a kind, before its first word.
-    pub fn new(kind: Kind) -> Series {
+    pub fn new(kind: Kind) -> Series
+        ensures { result.kind ≡ kind }
+    {
         Series {
             kind,
             level: 2000,
@@ -55,7 +59,9 @@ impl Series {
     }
 
     /// The next number with no order in it: a step of splitmix64.
-    pub fn draw(&mut self) -> u64 {
+    pub fn draw(&mut self) -> u64
+        ensures { self.new.kind ≡ self.old.kind }
+    {
         self.seed = self.seed.wrapping_add(0x9e37_79b9_7f4a_7c15);
         let first = (self.seed ^ (self.seed >> 30)).wrapping_mul(0xbf58_476d_1ce4_e5b9);
         let second = (first ^ (first >> 27)).wrapping_mul(0x94d0_49bb_1331_11eb);
@@ -63,7 +69,9 @@ impl Series {
     }
 
     /// The next word.
-    pub fn word(&mut self) -> u64 {
+    pub fn word(&mut self) -> u64
+        ensures { self.new.kind ≡ self.old.kind }
+    {
         let drawn = self.draw();
         match self.kind {
             Kind::Constant => double_bits(12, 1.0),
@@ -84,7 +92,10 @@ impl Series {
     }
 
     /// Puts the next words in place of those of the list, so many.
-    pub fn fill(&mut self, words: &mut Vec<u64>, count: usize) -> Result<(), AllocError> {
+    pub fn fill(&mut self, words: &mut Vec<u64>, count: usize) -> Result<(), AllocError>
+        ensures kind { self.new.kind ≡ self.old.kind }
+        ensures count { OnOk result (length words.new.items ≡ count) }
+    {
         words.clear();
         for _ in 0..count {
             words.push(self.word())?;
