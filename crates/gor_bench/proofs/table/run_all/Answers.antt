@@ -1,7 +1,13 @@
 use Rattle.std.proofs.Common.{slice_index_or, subst}
 use Rattle.gor_hall.specs.declared.pass.Pass.{Pass}
 use Rattle.gor_plain.specs.Lanes.{IsBack}
+use denote.Param.Send.{sendable}
+use Rattle.std.proofs.Crossing.{crosses}
+use Rattle.gor_hall.proofs.Sharing.{badge_send}
 use Rattle.gor_bench.proofs.table.run_all.Goals as goal
+
+pub for_each_mut-requires-send-T : goal.for_each_mut-requires-send-T
+for_each_mut-requires-send-T g c κs within = search (sendable, crosses, badge_send) depth 40 fits 40000
 
 pub returns-clause-back : goal.returns-clause-back
 returns-clause-back g c i d low =

@@ -1,7 +1,13 @@
 use Rattle.std.proofs.Common.{slice_index_or, subst}
 use Rattle.gor_plain.specs.declared.lanes.Lane.{Lane}
 use Rattle.gor_plain.specs.Lanes.{IsBack}
+use denote.Param.Send.{sendable}
+use Rattle.std.proofs.Crossing.{crosses}
+use Rattle.gor_hall.proofs.Sharing.{badge_send}
 use Rattle.gor_plain.proofs.lanes.run_in_place.Goals as goal
+
+pub for_each_mut-requires-send-T : goal.for_each_mut-requires-send-T
+for_each_mut-requires-send-T g c κs within = search (sendable, crosses, badge_send) depth 40 fits 40000
 
 pub returns-clause-back : goal.returns-clause-back
 returns-clause-back g c i d low =
