@@ -1,6 +1,7 @@
 pub mod PartLaws
 pub mod ViewLaws
 pub mod ReadLaws
+pub mod PauseLaws
 pub mod FindLaws
 pub mod MoveLaws
 pub mod GetMoves

@@ -1,14 +1,13 @@
 -- The steps of a get.
-use Rattle.std.specs.Prelude.{◌≡◌, ◌⊎◌, ℕ, ◌+◌, ◌<◌, ◌∷◌, List, length, option_map, Option, Some, None, ⊤}
+use Rattle.std.specs.Prelude.{◌≡◌, ◌⊎◌, ℕ, ◌+◌, ◌<◌, ◌∷◌, List, option_map, Option, Some, None, ⊤}
 use Rattle.gor_model.specs.declared.event.Call.{Call}
 use Rattle.gor_model.specs.declared.event.Call.TheVariants as call
 use Rattle.gor_model.specs.declared.event.Event.{Event}
 use Rattle.gor_model.specs.declared.event.Reply.TheVariants as reply
 use Rattle.gor_model.specs.declared.start.Move.TheVariants.{Took, Gave}
 use Rattle.gor_model.specs.Names.{key_of}
-use Rattle.gor_model.specs.Changes.{History}
 use Rattle.gor_hall.specs.declared.pass.Pass.{Pass}
-use Rattle.gor_hall.specs.Passes.{lane_of, seen, made, moves}
+use Rattle.gor_hall.specs.Passes.{moves}
 use Rattle.gor_cell.specs.declared.copied.Copied.{Copied}
 use Rattle.gor_cell.specs.Steps.{copied_points}
 use Rattle.gor_dir.specs.Listings.{Listing, shown}
@@ -40,17 +39,6 @@ slot_of directory key = option_map (λ row. row.slot) ((shown directory).entry k
 abbrev pub Reads : Pass → Wanted → Pass → Read → Type 0
 Reads old wanted new read = Makes old read.number (get_call wanted) (reply.Points (copied_points read.copied)) new
 
--- the newest event that the pass has seen is its own, of the series in this slot, and has this number
-pub record EndsWith (pass : Pass) (slot n : ℕ) : Type 0 where
-  pub event : Event
-  pub before : History
-  pub earlier : List ℕ
-  pub ends : seen pass ≡ event ∷ before
-  pub number : n ≡ length before
-  pub mine : made pass ≡ n ∷ earlier
-  pub lane : event.lane ≡ lane_of pass
-  pub of : event.slot ≡ Some slot
-
 -- the first look-up gave a slot and made no event, or found that the key is absent
 abbrev pub LooksUp : ℕ → Pass → Wanted → Pass → Lookup → Type 0
 LooksUp slots old wanted new (lookup.At slot) = (slot < slots) × MakesNone old new
@@ -69,11 +57,6 @@ ReadsIfThere old wanted new (Some read) = Reads old wanted new read
 abbrev pub Answers : Pass → Wanted → Pass → Found → Type 0
 Answers old wanted new (found.Read read) = Reads old wanted new read
 Answers old wanted new (found.Missed n) = Makes old n (get_call wanted) reply.Absent new
-
--- where the series was read, the pause was called after its event
-abbrev pub HasPaused : (ℕ → Type 0) → Found → Type 0
-HasPaused called (found.Read read) = called read.number
-HasPaused called (found.Missed n) = ⊤
 
 -- the directory was kept over a series, if its key is there
 abbrev pub KeepsDirectory : ℕ → Pass → Pass → Type 0

@@ -2,6 +2,7 @@ pub mod Views
 pub mod Points
 pub mod Moves
 pub mod Gets
+pub mod Pauses
 pub mod Tries
 pub mod Kinds
 pub mod Held

@@ -1,5 +1,5 @@
 -- What the four calls do to their pass.
-use Rattle.std.specs.Prelude.{◌≡◌, ◌⊎◌, ℕ, ◌+◌, ◌<◌, ◌≤◌, List, [], ◌∷◌, Option, ⊤}
+use Rattle.std.specs.Prelude.{◌≡◌, ◌⊎◌, ℕ, ◌+◌, ◌<◌, ◌≤◌, List, [], Option}
 use Rattle.gor_model.specs.declared.point.Point.{Point}
 use Rattle.gor_model.specs.declared.event.Event.{Event}
 use Rattle.gor_model.specs.declared.event.Call.{Call}
@@ -9,7 +9,7 @@ use Rattle.gor_model.specs.declared.event.Reply.TheVariants as reply
 use Rattle.gor_hall.specs.declared.pass.Pass.{Pass}
 use Rattle.gor_hall.specs.declared.hall.Hall.{Hall}
 use Rattle.gor_hall.specs.Halls.{IsPassOf}
-use Rattle.gor_hall.specs.Passes.{view, held, made, lane_of, left_of_pass}
+use Rattle.gor_hall.specs.Passes.{view, held, lane_of, left_of_pass}
 use Rattle.gor_point.specs.Views.{HasNone, HasEvent}
 use Rattle.gor_point.specs.declared.gets.GetAnswer.{GetAnswer}
 use Rattle.gor_point.specs.declared.gets.GetAnswer.TheVariants as read
@@ -46,16 +46,7 @@ abbrev pub get_reply : GetAnswer → Reply
 get_reply (read.Points points) = reply.Points points
 get_reply read.Absent = reply.Absent
 
--- the answer is that of a series that is there
-abbrev pub HasPoints : GetAnswer → Type 0
-HasPoints (read.Points points) = ⊤
-HasPoints read.Absent = ⊥
-
 -- a refused range makes no event, and changes nothing; where memory is wanting for the copied blocks the event stands
 abbrev pub GetRefused : Pass → List ℕ → ℕ → ℕ → Pass → GetFault → Type 0
 GetRefused old key from to new (get.Range first last) = (first ≡ from) × (last ≡ to) × (to < from) × (new ≡ old)
 GetRefused old key from to new get.NoMemory = (from ≤ to) × (MakesNone old new ⊎ ((n : ℕ) × (points : List Point) × Makes old n (call.Get key from to) (reply.Points points) new))
-
--- it made no event, or it made one and called the pause after it, where `called n` says so of the number n
-abbrev pub PausesIfMade : (ℕ → Type 0) → Pass → Pass → Type 0
-PausesIfMade called old new = MakesNone old new ⊎ ((n : ℕ) × (made new ≡ n ∷ made old) × called n)

@@ -7,9 +7,11 @@ ghost use Rattle.gor_hall.specs.Halls.{IsPassOf, start_of};
 ghost use Rattle.gor_hall.specs.Passes.{held, lane_of, left_of_pass, moves};
 ghost use Rattle.gor_cell.specs.Steps.{copied_points};
 ghost use Rattle.gor_point.specs.declared.gets.GetFault.TheVariants.{Range};
-ghost use Rattle.gor_point.specs.Gets.{LooksUp, ReadsIfThere, Answers, KeepsDirectory, HasPaused, HasReply, WasRead};
+ghost use Rattle.gor_point.specs.Gets.{LooksUp, ReadsIfThere, Answers, KeepsDirectory, HasReply, WasRead};
 ghost use Rattle.gor_point.specs.Moves.{AddsMoves, ReadsApart};
-ghost use Rattle.gor_point.specs.Points.{IsReady, IsBack, Makes, MakesNone, get_reply, GetRefused, HasPoints, PausesIfMade};
+ghost use Rattle.gor_hall.specs.Calls.{KeepsPauses};
+ghost use Rattle.gor_point.specs.Pauses.{PausesIfRead, PausesIfFound, PausesIfPoints, PausesIfMade};
+ghost use Rattle.gor_point.specs.Points.{IsReady, IsBack, Makes, MakesNone, get_reply, GetRefused};
 
 use crate::parts::{Shard, take_directory, take_series};
 use crate::reads::{Found, Lookup, Read, Wanted, look_in, miss, read_in, read_kept, slot_in};
@@ -60,6 +62,7 @@ pub(crate) fn look_up<D: Disk, R: Wait>(
 ) -> Lookup
     requires pass { IsPassOf shard.now pass.old × (held pass.old ≡ []) × (0 < left_of_pass pass.old) }
     ensures pass { IsBack shard.now pass.old pass.new }
+    ensures pauses { KeepsPauses pass.old pass.new }
     ensures found { LooksUp (start_of shard.now).slots pass.old wanted.now pass.new result }
     ensures moves { moves pass.new ≡ Gave 1 ∷ Took 1 ∷ moves pass.old }
 {
@@ -81,8 +84,9 @@ pub(crate) fn read_at<D: Disk, P: Pause, R: Wait>(
     requires slot { slot < (start_of shard.now).slots }
     ensures pass { IsBack shard.now pass.old pass.new }
     ensures read { IfOk result (ReadsIfThere pass.old wanted.now pass.new) }
-    ensures paused { IfOk result (λ read. IfSome read (λ r. P.called pause.now (lane_of pass.old) place r.number)) }
+    ensures paused { IfOk result (PausesIfRead (P.called pause.now (lane_of pass.old) place) pass.old pass.new) }
     ensures none { OnErr result (MakesNone pass.old pass.new) }
+    ensures unpaused { OnErr result (KeepsPauses pass.old pass.new) }
     ensures moves { moves pass.new ≡ Gave (slot + 2) ∷ Took (slot + 2) ∷ moves pass.old }
 {
     let cell = take_series(rt, shard, pass, slot);
@@ -101,8 +105,9 @@ pub(crate) fn read_again<D: Disk, P: Pause, R: Wait>(
     requires pass { IsPassOf shard.now pass.old × (held pass.old ≡ []) × (0 < left_of_pass pass.old) }
     ensures pass { IsBack shard.now pass.old pass.new }
     ensures found { IfOk result (Answers pass.old wanted.now pass.new) }
-    ensures paused { IfOk result (HasPaused (P.called pause.now (lane_of pass.old) place)) }
+    ensures paused { IfOk result (PausesIfFound (P.called pause.now (lane_of pass.old) place) pass.old pass.new) }
     ensures none { OnErr result (MakesNone pass.old pass.new) }
+    ensures unpaused { OnErr result (KeepsPauses pass.old pass.new) }
     ensures moves { KeepsDirectory (start_of shard.now).slots pass.old pass.new }
 {
     let directory = take_directory(rt, shard, pass);
@@ -126,8 +131,9 @@ fn find<D: Disk, P: Pause, R: Wait>(
     requires pass { IsPassOf shard.now pass.old × (held pass.old ≡ []) × (0 < left_of_pass pass.old) }
     ensures pass { IsBack shard.now pass.old pass.new }
     ensures found { IfOk result (Answers pass.old wanted.now pass.new) }
-    ensures paused { IfOk result (HasPaused (P.called pause.now (lane_of pass.old) place)) }
+    ensures paused { IfOk result (PausesIfFound (P.called pause.now (lane_of pass.old) place) pass.old pass.new) }
     ensures none { OnErr result (MakesNone pass.old pass.new) }
+    ensures unpaused { OnErr result (KeepsPauses pass.old pass.new) }
     ensures moves { AddsMoves pass.old pass.new (ReadsApart (start_of shard.now).slots) }
 {
     let slot = match look_up(rt, shard, pass, wanted) {
@@ -179,7 +185,7 @@ pub fn get<D: Disk, P: Pause, R: Wait>(
     ensures pass { IsBack shard.now pass.old pass.new }
     ensures event { IfOk result (λ r. (from ≤ to) × Makes pass.old r.number (call.Get (key_of name.now) from to) (get_reply r.answer) pass.new) }
     ensures refused { IfErr result (GetRefused pass.old (key_of name.now) from to pass.new) }
-    ensures paused { IfOk result (λ r. HasPoints r.answer → P.called pause.now (lane_of pass.old) place r.number) }
+    ensures paused { IfOk result (λ r. PausesIfPoints (P.called pause.now (lane_of pass.old) place) pass.old pass.new r.number r.answer) }
     ensures failed { OnErr result (PausesIfMade (P.called pause.now (lane_of pass.old) place) pass.old pass.new) }
     ensures range { to < from → result ≡ Err (Range from to) }
     ensures moves { AddsMoves pass.old pass.new (ReadsApart (start_of shard.now).slots) }

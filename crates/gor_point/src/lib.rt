@@ -5,6 +5,7 @@
 //! where it differs it looks up again and keeps the directory, so that the second try decides.
 //!
 //! - `parts`: one object taken, and given back, as what its number says.
+//! - `pause`: the pause of a get, which is called in one place and counted by the pass.
 //! - `get`, `try_get`, `del`, `put`: the four calls.
 #![tactic(auto)]
 
@@ -13,6 +14,7 @@ mod dels;
 mod gets;
 mod held;
 mod parts;
+mod pause;
 mod put_call;
 mod puts;
 mod reads;

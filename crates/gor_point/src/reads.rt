@@ -11,9 +11,12 @@ ghost use Rattle.gor_cell.specs.Steps.{holds_key, copied_points};
 ghost use Rattle.gor_dir.specs.Listings.{shown};
 ghost use Rattle.gor_point.specs.Views.{HasDirectory, HasSeries, IsSound, KeepsShares};
 ghost use Rattle.gor_point.specs.Points.{Makes, MakesNone};
-ghost use Rattle.gor_point.specs.Gets.{get_call, EndsWith, Reads, ReadsIfThere, LooksUp, IsNoMiss, slot_of};
+ghost use Rattle.gor_hall.specs.Calls.{KeepsPauses};
+ghost use Rattle.gor_point.specs.Pauses.{Pauses, PausesIfRead};
+ghost use Rattle.gor_point.specs.Gets.{get_call, Reads, ReadsIfThere, LooksUp, IsNoMiss, slot_of};
 
 use crate::parts::{Shard, give_directory, give_series};
+use crate::pause::pause_in;
 use gor_cell::{Cell, Copied};
 use gor_dir::Directory;
 use gor_disk::Disk;
@@ -92,6 +95,7 @@ pub(crate) fn miss<D: Disk>(
     requires stands { HasDirectory (view pass.old) directory }
     requires absent { (shown directory).entry (key_of wanted.now.name.now) ≡ None }
     ensures pass { IsPassOf shard.now pass.new × (held pass.new ≡ []) × (lane_of pass.new ≡ lane_of pass.old) }
+    ensures pauses { KeepsPauses pass.old pass.new }
     ensures event { Makes pass.old result (get_call wanted.now) reply.Absent pass.new }
     ensures moves { moves pass.new ≡ Gave 1 ∷ moves pass.old }
 {
@@ -102,16 +106,6 @@ pub(crate) fn miss<D: Disk>(
     let number = shard.mark(pass, &missing);
     give_directory(shard, pass, directory);
     number
-}
-
-// Pauses a read that holds its series, once its event is the newest. Nothing else calls a pause.
-fn pause_in<P: Pause>(pause: &P, lane: u32, place: u32, pass: &Pass, slot: u32, number: u64)
-    requires held { Has (held pass.now) (slot + 2) }
-    requires event { EndsWith pass.now slot number }
-    ensures paused { P.called pause.now lane place number }
-{
-    let _ = (pass, slot, number);
-    pause.at(lane, place);
 }
 
 // Copies the blocks of a range, makes the event, and pauses.
@@ -131,7 +125,7 @@ fn read_cell<D: Disk, P: Pause>(
     requires holds { holds_key (key_of wanted.now.name.now) cell.now.live ≡ true }
     ensures pass { IsPassOf shard.now pass.new × (lane_of pass.new ≡ lane_of pass.old) × (held pass.new ≡ held pass.old) × (moves pass.new ≡ moves pass.old) }
     ensures read { IfOk result (λ read. Reads pass.old wanted.now pass.new read) }
-    ensures paused { IfOk result (λ read. P.called pause.now (lane_of pass.old) place read.number) }
+    ensures paused { IfOk result (λ read. Pauses (P.called pause.now (lane_of pass.old) place) pass.old pass.new read.number) }
     ensures shares { KeepsShares (view pass.old) (view pass.new) }
     ensures err { OnErr result (pass.new ≡ pass.old) }
 {
@@ -144,7 +138,7 @@ fn read_cell<D: Disk, P: Pause>(
         copied: &copied,
     };
     let number = shard.mark(pass, &present);
-    pause_in(pause, lane, place, pass, slot, number);
+    pause_in(shard, pass, slot, number, pause, place);
     Ok(Read { number, copied })
 }
 
@@ -166,8 +160,9 @@ pub(crate) fn read_series<D: Disk, P: Pause>(
     ensures pass { IsPassOf shard.now pass.new × (lane_of pass.new ≡ lane_of pass.old) × (held pass.new ≡ without (slot + 2) (held pass.old)) }
     ensures moves { moves pass.new ≡ Gave (slot + 2) ∷ moves pass.old }
     ensures read { IfOk result (λ read. Reads pass.old wanted.now pass.new read) }
-    ensures paused { IfOk result (λ read. P.called pause.now (lane_of pass.old) place read.number) }
+    ensures paused { IfOk result (λ read. Pauses (P.called pause.now (lane_of pass.old) place) pass.old pass.new read.number) }
     ensures none { OnErr result (MakesNone pass.old pass.new) }
+    ensures unpaused { OnErr result (KeepsPauses pass.old pass.new) }
     ensures shares { KeepsShares (view pass.old) (view pass.new) }
 {
     let read = read_cell(shard, pass, slot, &cell, wanted, pause, place);
@@ -186,6 +181,7 @@ pub(crate) fn look_in<D: Disk>(
     requires sound { IsSound (view pass.old) }
     requires stands { HasDirectory (view pass.old) directory }
     ensures pass { IsPassOf shard.now pass.new × (held pass.new ≡ []) × (lane_of pass.new ≡ lane_of pass.old) }
+    ensures pauses { KeepsPauses pass.old pass.new }
     ensures found { LooksUp (start_of shard.now).slots pass.old wanted.now pass.new result }
     ensures moves { moves pass.new ≡ Gave 1 ∷ moves pass.old }
     ensures refused { IsNoMiss result → refused pass.new ≡ refused pass.old }
@@ -215,8 +211,9 @@ pub(crate) fn read_in<D: Disk, P: Pause>(
     requires stands { HasSeries (view pass.old) slot cell }
     ensures pass { IsPassOf shard.now pass.new × (held pass.new ≡ []) × (lane_of pass.new ≡ lane_of pass.old) }
     ensures read { IfOk result (ReadsIfThere pass.old wanted.now pass.new) }
-    ensures paused { IfOk result (λ read. IfSome read (λ r. P.called pause.now (lane_of pass.old) place r.number)) }
+    ensures paused { IfOk result (PausesIfRead (P.called pause.now (lane_of pass.old) place) pass.old pass.new) }
     ensures none { OnErr result (MakesNone pass.old pass.new) }
+    ensures unpaused { OnErr result (KeepsPauses pass.old pass.new) }
     ensures moves { moves pass.new ≡ Gave (slot + 2) ∷ moves pass.old }
     ensures refused { IfOk result (λ read. IfNone read (refused pass.new ≡ refused pass.old)) }
 {
@@ -255,8 +252,9 @@ pub(crate) fn read_kept<D: Disk, P: Pause>(
     requires found { slot_of directory (key_of wanted.now.name.now) ≡ Some slot }
     ensures pass { IsPassOf shard.now pass.new × (held pass.new ≡ []) × (lane_of pass.new ≡ lane_of pass.old) }
     ensures read { IfOk result (λ read. Reads pass.old wanted.now pass.new read) }
-    ensures paused { IfOk result (λ read. P.called pause.now (lane_of pass.old) place read.number) }
+    ensures paused { IfOk result (λ read. Pauses (P.called pause.now (lane_of pass.old) place) pass.old pass.new read.number) }
     ensures none { OnErr result (MakesNone pass.old pass.new) }
+    ensures unpaused { OnErr result (KeepsPauses pass.old pass.new) }
     ensures moves { moves pass.new ≡ Gave 1 ∷ Gave (slot + 2) ∷ moves pass.old }
 {
     let read = read_series(shard, pass, slot, cell, wanted, pause, place);
