@@ -6,3 +6,8 @@ pub mod Readings
 pub mod Spellings
 pub mod TextRows
 pub mod Interleavings
+pub mod AtRest
+pub mod Orders
+pub mod Counted
+pub mod SameActs
+pub mod OneTexts

@@ -1,7 +1,8 @@
-pub mod Grammar
-pub mod Workloads
-pub mod Spelling
-pub mod LineAnswers
-pub mod Transcripts
-pub mod Interleaved
 pub mod Dumps
+pub mod Grammar
+pub mod Interleaved
+pub mod LineAnswers
+pub mod OneText
+pub mod Spelling
+pub mod Transcripts
+pub mod Workloads

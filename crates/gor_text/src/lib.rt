@@ -10,6 +10,7 @@ pub mod answer;
 pub mod dump;
 pub mod fields;
 pub mod item;
+pub mod laws;
 pub mod merged;
 pub mod reader;
 pub mod spelling;
