@@ -60,3 +60,4 @@ mod BodyLoop
 pub mod StoreOn
 pub mod Restored
 pub mod Opened
+pub mod OpenAgain

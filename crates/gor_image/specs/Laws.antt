@@ -1,5 +1,5 @@
 -- What an append may rely on.
-use Rattle.std.specs.Prelude.{◌≡◌, ◌≢◌, ◌⊎◌, ℕ, ◌≤◌, List, [], ◌∷◌, ◌++◌, Ok, Some, true, false}
+use Rattle.std.specs.Prelude.{◌≡◌, ◌≢◌, ◌⊎◌, ℕ, ◌≤◌, List, [], ◌∷◌, ◌++◌, Ok, Err, Some, true, false}
 use Rattle.gor_model.specs.declared.event.Change.{Change}
 use Rattle.gor_model.specs.declared.start.Start.{Start}
 use Rattle.gor_model.specs.declared.unit.Unit.TheVariants.{Second}
@@ -9,6 +9,7 @@ use Rattle.gor_model.specs.Fields.{IsBytes}
 use Rattle.gor_model.specs.Starts.{IsStart}
 use Rattle.gor_model.specs.Changes.{History, changes}
 use Rattle.gor_model.specs.Answers.{Legal}
+use Rattle.gor_model.specs.States.{IsFirstOf}
 use Rattle.gor_model.specs.PlainMap.{next_change}
 use Rattle.gor_disk.specs.declared.disk.FileId.TheVariants.{Marks, Keys, Log, Block}
 use Rattle.gor_disk.specs.Disk.{Contents}
@@ -21,7 +22,8 @@ use Rattle.gor_log.specs.Spelling as log_spelling
 use Rattle.gor_block.specs.PointBlock.{PointBlock, IsBlock, IsBytesOf}
 use Rattle.gor_image.specs.Blocks.{points_in}
 use Rattle.gor_image.specs.Recovery.{ShardMap}
-use Rattle.gor_image.specs.Images.{marks_of, map_of, current, fresh_map}
+use Rattle.gor_image.specs.declared.fault.ImageFault.TheVariants as fault
+use Rattle.gor_image.specs.Images.{marks_of, map_of, opens_to, current, fresh_map, Holds}
 use Rattle.gor_image.specs.Holding.{start_of}
 use Rattle.gor_image.specs.Fit.{IsFitFor, FitHolds}
 use Rattle.gor_image.specs.Appends.{OthersStay}
@@ -127,3 +129,9 @@ BlockIsFound = (b : PointBlock) (bytes : List ℕ) → IsBlock b → b.unit ≡ 
 abbrev pub BlockIsExact : Type 0
 BlockIsExact = (w : ℕ) (bytes : List ℕ) (points : List Point) → IsBytes bytes → w ≤ last_window → points_in w bytes ≡ Some points
     → IsBlock (record { unit = Second; window = w; points = points; room = 0 }) × IsBytesOf (record { unit = Second; window = w; points = points; room = 0 }) bytes
+
+-- An image that holds the state after a prefix of a legal history's changes opens with the same home and slots to the map that
+-- it holds, unless its next number has come to its limit.
+abbrev pub OpensAgain : Type 0
+OpensAgain = (shards shard : ℕ) (image : Contents) (start : Start) (H : History) (C : List Change) → IsStart start → Legal start H → IsFirstOf C (changes H)
+    → (h : Holds shards shard image start C) → (opens_to image shards shard start.slots ≡ Ok h.map) ⊎ (opens_to image shards shard start.slots ≡ Err (fault.Worn h.map.next))

@@ -1,4 +1,4 @@
-ghost use Rattle.gor_image.specs.Laws.{ListsDecide, SameListsHold, KeysChangeNothing, BothExtend, WaitingSpells, BlockIsFound, BlockIsExact, BeginsItself, NoMarkIsFresh, EmptyIsFresh, HomeIsFresh};
+ghost use Rattle.gor_image.specs.Laws.{ListsDecide, SameListsHold, KeysChangeNothing, BothExtend, WaitingSpells, BlockIsFound, BlockIsExact, BeginsItself, NoMarkIsFresh, EmptyIsFresh, HomeIsFresh, OpensAgain};
 
 /// The laws that appends rest on, as clauses. Those on appends speak of an image that is fit and holds the state after some
 /// changes, of which no file has a number that the next change takes, and of further changes that follow in a legal history.
@@ -26,4 +26,7 @@ pub fn laws()
     ensures block { BlockIsFound }
     // And what is found to be a block is one.
     ensures exact { BlockIsExact }
+    // Every image that holds the state after a prefix of the changes of a legal history opens again with the same home and
+    // slots, to that very map, or its numbers are worn.
+    ensures again { OpensAgain }
 {}

@@ -5,6 +5,7 @@ use Rattle.gor_image.proofs.BlockFound.{block_found}
 use Rattle.gor_image.proofs.Openings.{begins_itself, no_mark_is_fresh, empty_is_fresh}
 use Rattle.gor_image.proofs.BlockExact.{block_exact}
 use Rattle.gor_image.proofs.FreshHome.{home_is_fresh}
+use Rattle.gor_image.proofs.OpenAgain.{opens_again}
 use Rattle.gor_image.proofs.laws.laws.Goals as goal
 
 pub returns-clause-lists : goal.returns-clause-lists
@@ -39,3 +40,6 @@ returns-clause-exact c = block_exact
 
 pub returns-clause-home : goal.returns-clause-home
 returns-clause-home c = home_is_fresh
+
+pub returns-clause-again : goal.returns-clause-again
+returns-clause-again c = opens_again
