@@ -2,36 +2,11 @@
 //! answers; or it writes what the files of a shard hold.
 #![tactic(auto)]
 
-pub mod dump;
-mod dump_text;
-mod input;
-pub mod outcome;
-mod output;
-pub mod program;
-mod reading;
-pub mod serving;
-pub mod status;
 mod streams;
-mod taken_lines;
-#[cfg(test)]
-mod tests;
-#[cfg(test)]
-mod tests_dump;
-#[cfg(test)]
-mod tests_folder;
-#[cfg(test)]
-mod tests_lanes;
-#[cfg(test)]
-mod tests_runs;
-#[cfg(test)]
-mod tests_stops;
-mod words;
 
-use dump::dump;
 use gor_folder::store_disks;
 use gor_outside::NoPause;
-use program::run;
-use status::Status;
+use gor_run::{Status, dump, run};
 use std::env;
 use std::io::{self, BufReader};
 use std::process::ExitCode;

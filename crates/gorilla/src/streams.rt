@@ -1,3 +1,4 @@
+//! Standard input and output, as a source and a sink that count their faults.
 ghost use Rattle.std.specs.Prelude.{None};
 
 use gor_outside::{Failed, Sink, Source};

@@ -1,0 +1,130 @@
+-- What a run reads, what it writes, and what it leaves on its disks.
+use Rattle.std.specs.Prelude.{◌≡◌, ◌⊎◌, ℕ, ◌≤◌, List, [], ◌∷◌, ◌++◌, length, Option, Some, None, Bool, IsTrue}
+use Rattle.std.specs.List.{AllByRecursion, list_all}
+use Rattle.std.specs.Io.KnownBytes.{Appends}
+use Rattle.gor_disk.specs.Disk.{DiskView}
+use Rattle.gor_outside.specs.Causes.{Rose}
+use Rattle.gor_model.specs.declared.start.Start.{Start}
+use Rattle.gor_model.specs.Changes.{History}
+use Rattle.gor_image.specs.declared.recovered.OpenFault.{OpenFault}
+use Rattle.gor_text.specs.declared.workload.Line.{Line}
+use Rattle.gor_text.specs.Workloads.{IsWorkloadText, IsFirstBad, is_good_line}
+use Rattle.gor_text.specs.Grammar.{lines_of}
+use Rattle.gor_store.specs.LineCalls.{IsCallOf}
+use Rattle.gor_store.specs.Phases.{lines_at}
+use Rattle.gor_store.specs.Sessions.{Session, SessionEnds, IsToldBy, IsToldWhole}
+use Rattle.gor_store.specs.Stores.{WasRefused}
+use Rattle.gor_run.specs.Inputs.{most_input, IsWhole}
+use Rattle.gor_run.specs.Words.{slots_of_run}
+use Rattle.gor_run.specs.Outputs.{AppendsUntil}
+use Rattle.gor_run.specs.TakenLines.{is_taken_item}
+
+-- ---- what was asked for
+
+-- the words are those of a run with so many slots, the source was read to its end within the limit, and these are the phases of
+-- what was read
+pub record IsAsked (words : List (List ℕ)) (before after : Option (List ℕ)) (slots : ℕ) (phases : List (List (List Line))) : Type 0 where
+  pub input : List ℕ
+  pub asked : slots_of_run words ≡ Some slots
+  pub read : IsWhole before after input
+  pub said : IsWorkloadText is_taken_item input phases
+
+-- the source was read to its end within the limit, and line n is the first that is bad
+pub record HasBadLine (before after : Option (List ℕ)) (n : ℕ) : Type 0 where
+  pub input : List ℕ
+  pub read : IsWhole before after input
+  pub bad : IsFirstBad is_taken_item input n
+
+-- an input within the limit, every line of which is taken
+pub record IsGoodInput (input : List ℕ) : Type 0 where
+  pub short : length input ≤ most_input
+  pub good : IsTrue (list_all (is_good_line is_taken_item) (lines_of input))
+
+-- ---- the session of a disk
+
+module _ {D : Type 0} (tells : Bool) (view : D → DiskView) (faults : D → ℕ) where
+  -- a session on the disk, from its opening with so many slots, whose history begins with what the text tells of these phases
+  pub record HeldSession (slots : ℕ) (disk now : D) (phases : List (List (List Line))) (text : List ℕ) : Type 0 where
+    pub start : Start
+    pub history : History
+    pub session : Session 1 0 slots tells view faults disk now start history
+    pub told : IsToldBy start phases text history
+
+  -- and its history is what the text tells of these phases, and then a last flush, which was answered or met a Stop
+  pub record HeldWhole (slots : ℕ) (disk now : D) (phases : List (List (List Line))) (text : List ℕ) (stopped : Option ℕ) : Type 0 where
+    pub start : Start
+    pub history : History
+    pub session : Session 1 0 slots tells view faults disk now start history
+    pub told : IsToldWhole start phases text history
+    pub ends : SessionEnds 1 0 (view disk).seen tells (view now) start history stopped
+
+  -- ---- what a session writes, by how it ended; phases that were not run are `rest`
+
+  -- the sink grew by the text of all phases, and all is on the disk
+  pub record EndsWell (slots : ℕ) (phases : List (List (List Line))) (held written : Option (List ℕ)) (disk now : D) : Type 0 where
+    pub text : List ℕ
+    pub whole : HeldWhole slots disk now phases text None
+    pub appended : Appends held written text
+
+  -- the shard is stopped: the sink grew by the text of all phases and did not fail, or it failed within the text of the last of those that were run
+  pub record EndsStopped (slots : ℕ) (phases : List (List (List Line))) (held written : Option (List ℕ)) (before after : ℕ) (disk now : D) : Type 0 where
+    pub run : List (List (List Line))
+    pub rest : List (List (List Line))
+    pub parts : phases ≡ run ++ rest
+    pub text : List ℕ
+    pub whole : HeldWhole slots disk now run text (Some 0)
+    pub appended : ((rest ≡ []) × Appends held written text × (after ≡ before)) ⊎ (AppendsUntil held written whole.told.told.transcript.served × Rose before after)
+
+  -- the sink failed within the text of the last of the phases that were run
+  pub record EndsUnwritten (slots : ℕ) (phases : List (List (List Line))) (held written : Option (List ℕ)) (disk now : D) : Type 0 where
+    pub run : List (List (List Line))
+    pub rest : List (List (List Line))
+    pub parts : phases ≡ run ++ rest
+    pub text : List ℕ
+    pub whole : HeldWhole slots disk now run text None
+    pub appended : AppendsUntil held written whole.told.told.transcript.served
+
+  -- Memory was wanting in a phase: the sink grew by the text of those before it, and besides their events the history has only
+  -- such of lines of this phase, and of lane 8.
+  pub record EndsInPart (slots : ℕ) (phases : List (List (List Line))) (held written : Option (List ℕ)) (disk now : D) : Type 0 where
+    pub run : List (List (List Line))
+    pub lanes : List (List Line)
+    pub rest : List (List (List Line))
+    pub parts : phases ≡ run ++ lanes ∷ rest
+    pub text : List ℕ
+    pub part : HeldSession slots disk now run text
+    pub besides : AllByRecursion (λ e. (e.lane ≡ 8) ⊎ IsCallOf (lines_at lanes e.lane) e.call) part.told.later
+    pub appended : Appends held written text
+
+  -- ---- the same of a run, whose phases the source gave
+
+  pub record Answers (words : List (List ℕ)) (before after held written : Option (List ℕ)) (disk now : D) : Type 0 where
+    pub slots : ℕ
+    pub phases : List (List (List Line))
+    pub asked : IsAsked words before after slots phases
+    pub ends : EndsWell slots phases held written disk now
+
+  pub record Stops (words : List (List ℕ)) (before after held written : Option (List ℕ)) (faults_before faults_after : ℕ) (disk now : D) : Type 0 where
+    pub slots : ℕ
+    pub phases : List (List (List Line))
+    pub asked : IsAsked words before after slots phases
+    pub ends : EndsStopped slots phases held written faults_before faults_after disk now
+
+  pub record BreaksOff (words : List (List ℕ)) (before after held written : Option (List ℕ)) (disk now : D) : Type 0 where
+    pub slots : ℕ
+    pub phases : List (List (List Line))
+    pub asked : IsAsked words before after slots phases
+    pub ends : EndsUnwritten slots phases held written disk now
+
+  pub record RunsShort (words : List (List ℕ)) (before after held written : Option (List ℕ)) (disk now : D) : Type 0 where
+    pub slots : ℕ
+    pub phases : List (List (List Line))
+    pub asked : IsAsked words before after slots phases
+    pub ends : EndsInPart slots phases held written disk now
+
+  -- the disk was not opened for this fault, and nothing was written
+  pub record IsUnopened (words : List (List ℕ)) (before after : Option (List ℕ)) (fault : OpenFault) (disk now : D) : Type 0 where
+    pub slots : ℕ
+    pub phases : List (List (List Line))
+    pub asked : IsAsked words before after slots phases
+    pub refused : WasRefused 1 0 slots tells view faults fault disk now

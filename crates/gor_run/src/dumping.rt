@@ -1,0 +1,129 @@
+//! The dump: what the files of a shard hold, as text.
+ghost use Rattle.std.specs.Prelude.{◌≡◌, ◌≤◌, ◌⊎◌, ℕ, length, true, false, IsTrue, IsOk, Err};
+ghost use Rattle.std.specs.Io.KnownBytes.{Keeps};
+ghost use Rattle.gor_disk.specs.Disk.{Rose as DiskRose};
+ghost use Rattle.gor_image.specs.declared.fault.ImageFault.{ImageFault as Fault};
+ghost use Rattle.gor_image.specs.Images.{opens_to};
+ghost use Rattle.gor_image.specs.Openings.{OnlyRead};
+ghost use Rattle.gor_outside.specs.Causes.{Rose};
+ghost use Rattle.gor_run.specs.Dumps.{CallsFirst, Dumps, DumpsInPart, IsOfDisk, IsOfDump, IsRefused, WritesNoDump};
+ghost use Rattle.gor_run.specs.Words.{asks_dump, most_slots, words_of};
+
+use crate::dump_text::{ONLY_SHARD, dump_text};
+use crate::outcome::Outcome;
+use crate::output::write_text;
+use crate::status::Status;
+use crate::words::asks_dump;
+use gor_disk::Disk;
+use gor_image::{OpenFault, recover};
+use gor_outside::Sink;
+use std::alloc::Global;
+
+/// With how many slots a shard is recovered: with the most that one has.
+const DUMPED_SLOTS: u32 = 16_384;
+
+/// The status of a shard that was not recovered.
+fn refusal(fault: OpenFault) -> Status
+    ensures image { (image : Fault) → fault ≡ OpenFault.Image image → result ≡ Status.NotOpened 0 image }
+    ensures disk { fault ≡ OpenFault.Disk → result ≡ Status.DeviceFault 0 }
+    ensures memory { fault ≡ OpenFault.NoMemory → result ≡ Status.NoMemory }
+{
+    match fault {
+        OpenFault::Image(fault) => Status::NotOpened {
+            shard: ONLY_SHARD,
+            fault,
+        },
+        OpenFault::Disk => Status::DeviceFault { shard: ONLY_SHARD },
+        OpenFault::NoMemory => Status::NoMemory,
+    }
+}
+
+/// Writes the dump of a disk, which is that of the only shard.
+fn dump_disk<K: Sink, D: Disk>(alloc: Global, sink: &mut K, disk: &mut D) -> Status
+    ensures answered { result ≡ Status.Ok → Dumps D.tells (D.view disk.old).seen (K.held sink.old) (K.held sink.new) }
+    ensures in_part { result ≡ Status.WriteFault → DumpsInPart D.tells (D.view disk.old).seen (K.held sink.old) (K.held sink.new) }
+    ensures not_opened { (shard : ℕ) (fault : Fault) → result ≡ Status.NotOpened shard fault → IsRefused D.tells (D.view disk.old).seen (D.faults disk.old) (D.faults disk.new) shard fault }
+    ensures device_fault { (shard : ℕ) → result ≡ Status.DeviceFault shard → (shard ≡ 0) × DiskRose (D.faults disk.old) (D.faults disk.new) }
+    ensures write_fault { result ≡ Status.WriteFault → Rose (K.faults sink.old) (K.faults sink.new) }
+    ensures quiet { WritesNoDump result → Keeps (K.held sink.old) (K.held sink.new) × (K.faults sink.new ≡ K.faults sink.old) }
+    ensures statuses { IsOfDisk result }
+    ensures only_read { IsTrue D.tells → OnlyRead (D.view disk.old) (D.view disk.new) }
+    ensures refused { (fault : Fault) → IsTrue D.tells → ¬ (DiskRose (D.faults disk.old) (D.faults disk.new)) → opens_to (D.view disk.old).seen 1 0 most_slots ≡ Err fault → (result ≡ Status.NotOpened 0 fault) ⊎ (result ≡ Status.NoMemory) }
+    ensures complete { IsTrue D.tells → ¬ (DiskRose (D.faults disk.old) (D.faults disk.new)) → ¬ (Rose (K.faults sink.old) (K.faults sink.new)) → IsOk (opens_to (D.view disk.old).seen 1 0 most_slots) → (result ≡ Status.Ok) ⊎ (result ≡ Status.NoMemory) }
+{
+    let recovered = match recover(alloc, disk, 1, ONLY_SHARD, DUMPED_SLOTS) {
+        Ok(recovered) => recovered,
+        Err(fault) => return refusal(fault),
+    };
+    let Ok(text) = dump_text(alloc, recovered) else {
+        return Status::NoMemory;
+    };
+    match write_text(sink, &text) {
+        Ok(()) => Status::Ok,
+        Err(_) => Status::WriteFault,
+    }
+}
+
+/// Dumps the first of some disks.
+fn dump_first<K: Sink, D: Disk>(alloc: Global, sink: &mut K, disks: &mut [D]) -> Status
+    requires some { 1 ≤ length disks.old }
+    ensures len { length disks.new ≡ length disks.old }
+    ensures answered { result ≡ Status.Ok → CallsFirst (λ disk now. Dumps D.tells (D.view disk).seen (K.held sink.old) (K.held sink.new)) disks.old disks.new }
+    ensures in_part { result ≡ Status.WriteFault → CallsFirst (λ disk now. DumpsInPart D.tells (D.view disk).seen (K.held sink.old) (K.held sink.new)) disks.old disks.new }
+    ensures not_opened { (shard : ℕ) (fault : Fault) → result ≡ Status.NotOpened shard fault → CallsFirst (λ disk now. IsRefused D.tells (D.view disk).seen (D.faults disk) (D.faults now) shard fault) disks.old disks.new }
+    ensures device_fault { (shard : ℕ) → result ≡ Status.DeviceFault shard → CallsFirst (λ disk now. (shard ≡ 0) × DiskRose (D.faults disk) (D.faults now)) disks.old disks.new }
+    ensures write_fault { result ≡ Status.WriteFault → Rose (K.faults sink.old) (K.faults sink.new) }
+    ensures quiet { WritesNoDump result → Keeps (K.held sink.old) (K.held sink.new) × (K.faults sink.new ≡ K.faults sink.old) }
+    ensures statuses { IsOfDisk result }
+    ensures only_read { CallsFirst (λ disk now. IsTrue D.tells → OnlyRead (D.view disk) (D.view now)) disks.old disks.new }
+    ensures refused { CallsFirst (λ disk now. (fault : Fault) → IsTrue D.tells → ¬ (DiskRose (D.faults disk) (D.faults now)) → opens_to (D.view disk).seen 1 0 most_slots ≡ Err fault → (result ≡ Status.NotOpened 0 fault) ⊎ (result ≡ Status.NoMemory)) disks.old disks.new }
+    ensures complete { CallsFirst (λ disk now. IsTrue D.tells → ¬ (DiskRose (D.faults disk) (D.faults now)) → ¬ (Rose (K.faults sink.old) (K.faults sink.new)) → IsOk (opens_to (D.view disk).seen 1 0 most_slots) → (result ≡ Status.Ok) ⊎ (result ≡ Status.NoMemory)) disks.old disks.new }
+{
+    match disks {
+        [disk, ..] => dump_disk(alloc, sink, disk),
+        [] => unreachable!(),
+    }
+}
+
+/// Writes what the disk of the only shard holds: its floor where that is not 0, and each series with its kept points, in the
+/// order of the bytes of the keys.
+///
+/// The words are `dump` or `dump --shards 1`. Sixteen disks are handed in, and come back in their order under every status.
+/// The first one is read, as an opening with 16,384 slots reads it, and the others are not called. No disk is written or
+/// cut. Nothing is written to the sink but under `Ok` and `WriteFault`, and under the latter a front of the text.
+pub fn dump<R: AllocGlobal, K: Sink, D: Disk>(
+    rt: &R,
+    words: &[String],
+    sink: &mut K,
+    disks: Vec<D>,
+) -> Outcome<D>
+    requires sixteen { length disks.items ≡ 16 }
+    ensures answered { result.status ≡ Status.Ok → (asks_dump (words_of words.now) ≡ true) × CallsFirst (λ disk now. Dumps D.tells (D.view disk).seen (K.held sink.old) (K.held sink.new)) disks.items result.disks.items }
+    ensures only_read { CallsFirst (λ disk now. IsTrue D.tells → OnlyRead (D.view disk) (D.view now)) disks.items result.disks.items }
+
+    // The cause of every other status but want of memory.
+    ensures statuses { IsOfDump result.status }
+    ensures words { result.status ≡ Status.Words → (asks_dump (words_of words.now) ≡ false) × (result.disks.items ≡ disks.items) }
+    ensures not_opened { (shard : ℕ) (fault : Fault) → result.status ≡ Status.NotOpened shard fault → CallsFirst (λ disk now. IsRefused D.tells (D.view disk).seen (D.faults disk) (D.faults now) shard fault) disks.items result.disks.items }
+    ensures device_fault { (shard : ℕ) → result.status ≡ Status.DeviceFault shard → CallsFirst (λ disk now. (shard ≡ 0) × DiskRose (D.faults disk) (D.faults now)) disks.items result.disks.items }
+    ensures write_fault { result.status ≡ Status.WriteFault → Rose (K.faults sink.old) (K.faults sink.new) }
+    ensures in_part { result.status ≡ Status.WriteFault → CallsFirst (λ disk now. DumpsInPart D.tells (D.view disk).seen (K.held sink.old) (K.held sink.new)) disks.items result.disks.items }
+    ensures nothing_written { WritesNoDump result.status → Keeps (K.held sink.old) (K.held sink.new) × (K.faults sink.new ≡ K.faults sink.old) }
+
+    // Each of these causes gives its status, unless memory is wanting.
+    ensures words_refused { asks_dump (words_of words.now) ≡ false → result.status ≡ Status.Words }
+    ensures refused { asks_dump (words_of words.now) ≡ true → CallsFirst (λ disk now. (fault : Fault) → IsTrue D.tells → ¬ (DiskRose (D.faults disk) (D.faults now)) → opens_to (D.view disk).seen 1 0 most_slots ≡ Err fault → (result.status ≡ Status.NotOpened 0 fault) ⊎ (result.status ≡ Status.NoMemory)) disks.items result.disks.items }
+
+    // What nothing hinders ends well, unless memory is wanting.
+    ensures complete { asks_dump (words_of words.now) ≡ true → CallsFirst (λ disk now. IsTrue D.tells → ¬ (DiskRose (D.faults disk) (D.faults now)) → ¬ (Rose (K.faults sink.old) (K.faults sink.new)) → IsOk (opens_to (D.view disk).seen 1 0 most_slots) → (result.status ≡ Status.Ok) ⊎ (result.status ≡ Status.NoMemory)) disks.items result.disks.items }
+{
+    let mut disks = disks;
+    if !asks_dump(words) {
+        return Outcome {
+            status: Status::Words,
+            disks,
+        };
+    }
+    let status = dump_first(rt.alloc(), sink, &mut disks);
+    Outcome { status, disks }
+}

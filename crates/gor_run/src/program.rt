@@ -1,0 +1,110 @@
+//! The run: the words, the input to its end, the store, its phases and its end.
+ghost use Rattle.std.specs.Prelude.{ℕ, ◌≡◌, ◌⊎◌, ◌+◌, ◌≤◌, ◌<◌, ◌∷◌, List, length, Some, None, Err, IsOk, IsTrue};
+ghost use Rattle.std.specs.List.{AllByRecursion};
+ghost use Rattle.std.specs.Io.KnownBytes.{Keeps};
+ghost use Rattle.gor_disk.specs.Disk.{NothingPending, Rose as DiskRose};
+ghost use Rattle.gor_image.specs.declared.fault.ImageFault.{ImageFault as Fault};
+ghost use Rattle.gor_image.specs.Images.{opens_to};
+ghost use Rattle.gor_outside.specs.Causes.{Rose};
+ghost use Rattle.gor_text.specs.Workloads.{IsFirstBad};
+ghost use Rattle.gor_run.specs.Dumps.{CallsFirst};
+ghost use Rattle.gor_run.specs.Words.{words_of, slots_of_run};
+ghost use Rattle.gor_run.specs.Inputs.{most_input, IsTooLong};
+ghost use Rattle.gor_run.specs.TakenLines.{is_taken_item};
+ghost use Rattle.gor_run.specs.Serving.{unopened_status};
+ghost use Rattle.gor_run.specs.Statuses.{CallsNoDisk, WritesNothing};
+ghost use Rattle.gor_run.specs.Runs.{Answers, BreaksOff, HasBadLine, IsGoodInput, IsUnopened, RunsShort, Stops};
+
+use crate::outcome::Outcome;
+use crate::reading::read_workload;
+use crate::serving::serve;
+use crate::status::Status;
+use crate::words::slots_of_run;
+use gor_disk::Disk;
+use gor_image::OpenFault;
+use gor_outside::{Pause, Sink, Source};
+use gor_store::{NotStored, Store};
+use std::sync::Wait;
+use std::thread::Threads;
+
+/// How a run ends whose store was not opened.
+fn unopened<D: Disk>(refused: NotStored<D>) -> Outcome<D>
+    ensures status { result.status ≡ unopened_status refused.shard refused.fault }
+    ensures disks { result.disks ≡ refused.disks }
+{
+    let NotStored {
+        disks,
+        shard,
+        fault,
+    } = refused;
+    let status = match fault {
+        OpenFault::Image(fault) => Status::NotOpened { shard, fault },
+        OpenFault::Disk => Status::DeviceFault { shard },
+        OpenFault::NoMemory => Status::NoMemory,
+    };
+    Outcome { status, disks }
+}
+
+/// Runs a workload on the shard of the first disk: it restores the shard, runs the lanes of each phase in threads of their own,
+/// writes the answers of a phase before the next one begins, flushes, and gives the disks back.
+///
+/// The words are `run`, `run --shards 1`, or that with `--slots N`. The input is read to its end before a disk is called or
+/// anything is written. Sixteen disks are handed in, and come back in their order under every status; but for the first one
+/// they are not called.
+pub fn run<
+    R: AllocGlobal + Threads + Wait + Sync,
+    S: Source,
+    K: Sink,
+    D: Disk + Send,
+    P: Pause + Sync,
+>(rt: &R, words: &[String], source: &mut S, sink: &mut K, disks: Vec<D>, pause: &P) -> Outcome<D>
+    requires sixteen { length disks.items ≡ 16 }
+    requires pending { IsTrue D.tells → AllByRecursion (λ d. NothingPending (D.view d)) disks.items }
+
+    // The headline.
+    ensures answered { result.status ≡ Status.Ok → CallsFirst (λ disk now. Answers D.tells D.view D.faults (words_of words.now) (S.left source.old) (S.left source.new) (K.held sink.old) (K.held sink.new) disk now) disks.items result.disks.items }
+    ensures quiet { result.status ≡ Status.Ok → K.faults sink.new ≡ K.faults sink.old }
+
+    // A shard that could not be opened, or that was stopped.
+    ensures device_fault { (shard : ℕ) → result.status ≡ Status.DeviceFault shard → CallsFirst (λ disk now. (shard ≡ 0) × DiskRose (D.faults disk) (D.faults now) × ((IsUnopened D.tells D.view D.faults (words_of words.now) (S.left source.old) (S.left source.new) OpenFault.Disk disk now × Keeps (K.held sink.old) (K.held sink.new) × (K.faults sink.new ≡ K.faults sink.old)) ⊎ Stops D.tells D.view D.faults (words_of words.now) (S.left source.old) (S.left source.new) (K.held sink.old) (K.held sink.new) (K.faults sink.old) (K.faults sink.new) disk now)) disks.items result.disks.items }
+    ensures not_opened { (shard : ℕ) (fault : Fault) → result.status ≡ Status.NotOpened shard fault → CallsFirst (λ disk now. (shard ≡ 0) × IsUnopened D.tells D.view D.faults (words_of words.now) (S.left source.old) (S.left source.new) (OpenFault.Image fault) disk now) disks.items result.disks.items }
+
+    // What stands where the output was not written whole.
+    ensures write_fault { result.status ≡ Status.WriteFault → Rose (K.faults sink.old) (K.faults sink.new) × CallsFirst (λ disk now. BreaksOff D.tells D.view D.faults (words_of words.now) (S.left source.old) (S.left source.new) (K.held sink.old) (K.held sink.new) disk now) disks.items result.disks.items }
+    ensures memory { result.status ≡ Status.NoMemory → (K.faults sink.new ≡ K.faults sink.old) × CallsFirst (λ disk now. (Keeps (K.held sink.old) (K.held sink.new) × ((now ≡ disk) ⊎ IsUnopened D.tells D.view D.faults (words_of words.now) (S.left source.old) (S.left source.new) OpenFault.NoMemory disk now)) ⊎ RunsShort D.tells D.view D.faults (words_of words.now) (S.left source.old) (S.left source.new) (K.held sink.old) (K.held sink.new) disk now) disks.items result.disks.items }
+    ensures nothing_written { WritesNothing result.status → Keeps (K.held sink.old) (K.held sink.new) × (K.faults sink.new ≡ K.faults sink.old) }
+    ensures uncalled { CallsNoDisk result.status → result.disks.items ≡ disks.items }
+
+    // The cause of every other status but want of memory.
+    ensures words { result.status ≡ Status.Words → slots_of_run (words_of words.now) ≡ None }
+    ensures read_fault { result.status ≡ Status.ReadFault → Rose (S.faults source.old) (S.faults source.new) }
+    ensures too_long { result.status ≡ Status.TooLong → IsTooLong (S.left source.old) (S.left source.new) }
+    ensures bad_line { (line : ℕ) → result.status ≡ Status.BadLine line → HasBadLine (S.left source.old) (S.left source.new) line }
+
+    // Each of these causes gives its status, unless memory is wanting.
+    ensures words_refused { slots_of_run (words_of words.now) ≡ None → result.status ≡ Status.Words }
+    ensures long_refused { (input : List ℕ) → ¬ (slots_of_run (words_of words.now) ≡ None) → ¬ (Rose (S.faults source.old) (S.faults source.new)) → S.left source.old ≡ Some input → most_input < length input → (result.status ≡ Status.TooLong) ⊎ (result.status ≡ Status.NoMemory) }
+    ensures bad_refused { (input : List ℕ) (line : ℕ) → ¬ (slots_of_run (words_of words.now) ≡ None) → ¬ (Rose (S.faults source.old) (S.faults source.new)) → S.left source.old ≡ Some input → length input ≤ most_input → IsFirstBad is_taken_item input line → (result.status ≡ Status.BadLine line) ⊎ (result.status ≡ Status.NoMemory) }
+    ensures refused { (input : List ℕ) (slots : ℕ) (fault : Fault) → slots_of_run (words_of words.now) ≡ Some slots → ¬ (Rose (S.faults source.old) (S.faults source.new)) → S.left source.old ≡ Some input → IsGoodInput input → CallsFirst (λ disk now. IsTrue D.tells → ¬ (DiskRose (D.faults disk) (D.faults now)) → opens_to (D.view disk).seen 1 0 slots ≡ Err fault → (result.status ≡ Status.NotOpened 0 fault) ⊎ (result.status ≡ Status.NoMemory)) disks.items result.disks.items }
+
+    // What nothing hinders ends well, unless memory is wanting.
+    ensures complete { (input : List ℕ) (slots : ℕ) → slots_of_run (words_of words.now) ≡ Some slots → ¬ (Rose (S.faults source.old) (S.faults source.new)) → ¬ (Rose (K.faults sink.old) (K.faults sink.new)) → S.left source.old ≡ Some input → IsGoodInput input → CallsFirst (λ disk now. IsTrue D.tells → ¬ (DiskRose (D.faults disk) (D.faults now)) → IsOk (opens_to (D.view disk).seen 1 0 slots) → (result.status ≡ Status.Ok) ⊎ (result.status ≡ Status.NoMemory)) disks.items result.disks.items }
+
+    // Each read takes at least one byte, or is the last.
+    ensures turns { S.reads source.new ≤ S.reads source.old + 16777217 }
+{
+    let Some(slots) = slots_of_run(words) else {
+        return Outcome {
+            status: Status::Words,
+            disks,
+        };
+    };
+    let workload = match read_workload(rt.alloc(), source) {
+        Ok(workload) => workload,
+        Err(status) => return Outcome { status, disks },
+    };
+    match Store::open(rt.alloc(), disks, 1, slots as u32) {
+        Ok(store) => serve(rt, store, sink, &workload.phases, pause),
+        Err(refused) => unopened(refused),
+    }
+}
