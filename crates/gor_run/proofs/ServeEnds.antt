@@ -15,7 +15,8 @@ use Rattle.gor_model.specs.declared.start.Start.{Start}
 use Rattle.gor_text.specs.Transcripts.{Served}
 use Rattle.gor_text.specs.declared.workload.Line.{Line}
 use Rattle.gor_text.proofs.Interleavings.{all-map}
-use Rattle.gor_store.specs.Closings.{only_last}
+use Rattle.gor_finish.specs.Flushes.{take_made, take_refused, stop_made}
+use Rattle.gor_store.specs.Closings.{ClosesBy, only_last}
 use Rattle.gor_store.specs.LineCalls.{IsCallOf, AreBy}
 use Rattle.gor_store.specs.Lanes.{AreTaken}
 use Rattle.gor_store.specs.Phases.{lines_at}
@@ -30,7 +31,7 @@ use Rattle.gor_store.proofs.StoryLists.{all_front}
 use Rattle.gor_store.proofs.Works.{last_is_done, work_is_counted}
 use Rattle.gor_run.specs.Dumps.{CallsFirst}
 use Rattle.gor_run.specs.Outputs.{AppendsUntil}
-use Rattle.gor_run.specs.Runs.{HeldSession, HeldWhole}
+use Rattle.gor_run.specs.Runs.{HeldSession, HeldWhole, IsOfLastFlush}
 use Rattle.gor_run.specs.Serving.{EndsBy, HasEnded, HasWritten, status_by}
 use Rattle.gor_run.specs.TakenLines.{AreTakenPhases, IsTakenPhase}
 use Rattle.gor_run.specs.declared.serving.PhaseFault.{PhaseFault}
@@ -85,22 +86,36 @@ among_both P Q [] (y ∷ ys) e ps qs (inr more) = among_both P Q [] ys e ps qs.1
 among_both P Q (x ∷ xs) ys e ps qs (inl is) = inl (subst P is ps.0)
 among_both P Q (x ∷ xs) ys e ps qs (inr more) = among_both P Q xs ys e ps.1 qs more
 
-of_eight : (events : List Numbered) (k : ℕ) → AllByRecursion (λ (e : Numbered). k ≡ 8) (only_last events k)
-of_eight events k = at (nat_eq k 8) refl where
-  each : (es : List Numbered) → k ≡ 8 → AllByRecursion (λ (e : Numbered). k ≡ 8) es
-  each [] is = tt
-  each (e ∷ es) is = (is, each es is)
+-- those of lane 8 are those of a flush
+flushes_by : (stopped : Option ℕ) (events : List Numbered) → ClosesBy stopped events → AllByRecursion (λ (e : Numbered). IsOfLastFlush e.1) events
+flushes_by None events closes = subst (AllByRecursion (λ (e : Numbered). IsOfLastFlush e.1)) (sym closes.5) (
+  record { lane = refl; flushes = tt; adds_nothing = refl },
+  record { lane = refl; flushes = tt; adds_nothing = refl },
+  tt,
+)
+flushes_by (Some shard) events closes = by closes.1 where
+  by : ((number : ℕ) × (events ≡ (number, take_refused 8) ∷ [])) ⊎ ((take stop taken : ℕ) × (events ≡ (take, take_made 8 taken) ∷ (stop, stop_made 8) ∷ []))
+      → AllByRecursion (λ (e : Numbered). IsOfLastFlush e.1) events
+  by (inl refused) = subst (AllByRecursion (λ (e : Numbered). IsOfLastFlush e.1)) (sym refused.1) (record { lane = refl; flushes = tt; adds_nothing = refl }, tt)
+  by (inr stops) = subst (AllByRecursion (λ (e : Numbered). IsOfLastFlush e.1)) (sym stops.3) (
+    record { lane = refl; flushes = tt; adds_nothing = refl },
+    record { lane = refl; flushes = tt; adds_nothing = refl },
+    tt,
+  )
 
-  at : (b : Bool) → nat_eq k 8 ≡ b → AllByRecursion (λ (e : Numbered). k ≡ 8) (cond b events [])
-  at true is = each events (eqb-true k 8 is)
-  at false is = tt
+of_eight : (events : List Numbered) (k : ℕ) → AllByRecursion (λ (e : Numbered). IsOfLastFlush e.1) events → AllByRecursion (λ (e : Numbered). IsOfLastFlush e.1) (only_last events k)
+of_eight events k all = at (nat_eq k 8) where
+  at : (b : Bool) → AllByRecursion (λ (e : Numbered). IsOfLastFlush e.1) (cond b events [])
+  at true = all
+  at false = tt
 
--- those of a lane are of its lines, or it is lane 8
-besides : (lanes : List (List Line)) (more : ℕ → List Numbered) (events : List Numbered) → ((k : ℕ) → AreBy k (IsCallOf (lines_at lanes k)) (more k))
-    → (e : Event) → IsAmong (more e.lane ++ only_last events e.lane) e → (e.lane ≡ 8) ⊎ IsCallOf (lines_at lanes e.lane) e.call
-besides lanes more events of e among =
-    turned (among_both (λ (x : Event). (x.lane ≡ e.lane) × IsCallOf (lines_at lanes e.lane) x.call) (λ (x : Event). e.lane ≡ 8) (more e.lane) (only_last events e.lane) e (of e.lane) (of_eight events e.lane) among) where
-      turned : ((e.lane ≡ e.lane) × IsCallOf (lines_at lanes e.lane) e.call) ⊎ (e.lane ≡ 8) → (e.lane ≡ 8) ⊎ IsCallOf (lines_at lanes e.lane) e.call
+-- those of a lane are of its lines, or of the last flush
+besides : (lanes : List (List Line)) (more : ℕ → List Numbered) (events : List Numbered) → AllByRecursion (λ (e : Numbered). IsOfLastFlush e.1) events
+    → ((k : ℕ) → AreBy k (IsCallOf (lines_at lanes k)) (more k))
+    → (e : Event) → IsAmong (more e.lane ++ only_last events e.lane) e → IsOfLastFlush e ⊎ IsCallOf (lines_at lanes e.lane) e.call
+besides lanes more events flush of e among =
+    turned (among_both (λ (x : Event). (x.lane ≡ e.lane) × IsCallOf (lines_at lanes e.lane) x.call) IsOfLastFlush (more e.lane) (only_last events e.lane) e (of e.lane) (of_eight events e.lane flush) among) where
+      turned : ((e.lane ≡ e.lane) × IsCallOf (lines_at lanes e.lane) e.call) ⊎ IsOfLastFlush e → IsOfLastFlush e ⊎ IsCallOf (lines_at lanes e.lane) e.call
       turned (inl own) = inr own.1
       turned (inr is) = inl is
 
@@ -147,10 +162,10 @@ module _ {D : Type 0} (tells : Bool) (view : D → DiskView) (faults : D → ℕ
         same = whole.1 ∙ ap served_in (whole_runs (passes_of store) e.passes phases text e.events served e.added e.from);
       }
 
-  -- what came after the phases is of the lines of these lanes, or of lane 8
+  -- what came after the phases is of the lines of these lanes, or of the last flush
   record InPart (phases : List (List (List Line))) (text : List ℕ) (lanes : List (List Line)) (now : D) : Type 0 where
     held : HeldSession tells view faults slots first now phases text
-    of : AllByRecursion (λ e. (e.lane ≡ 8) ⊎ IsCallOf (lines_at lanes e.lane) e.call) held.told.later
+    of : AllByRecursion (λ e. IsOfLastFlush e ⊎ IsCallOf (lines_at lanes e.lane) e.call) held.told.later
 
   held_session : (phases : List (List (List Line))) (text : List ℕ) (lanes : List (List Line)) (more : ℕ → List Numbered) (stopped : Option ℕ) (disks : List D) → AllByRecursion (AllByRecursion AreTaken) phases
       → (e : HasEnded tells view faults store stopped disks) → (served : HaveServed (passes_of store) phases more text) → count_all served.runs ≤ sum_by (λ p. length (made p)) (passes_of store)
@@ -161,8 +176,8 @@ module _ {D : Type 0} (tells : Bool) (view : D → DiskView) (faults : D → ℕ
       let session = stands slots first e.disk start e.passes phases (λ k. more k ++ only_last e.events k) text begins taken all e.closed in
       record {
         held = record { start = start; history = e.closed.history; session = session.0; told = session.1 };
-        of = all-map (λ (x : Event). IsAmong (more x.lane ++ only_last e.events x.lane) x) (λ (x : Event). (x.lane ≡ 8) ⊎ IsCallOf (lines_at lanes x.lane) x.call)
-            (λ x among. besides lanes more e.events of x among) session.1.later session.3;
+        of = all-map (λ (x : Event). IsAmong (more x.lane ++ only_last e.events x.lane) x) (λ (x : Event). IsOfLastFlush x ⊎ IsCallOf (lines_at lanes x.lane) x.call)
+            (λ x among. besides lanes more e.events (flushes_by stopped e.events e.closes) of x among) session.1.later session.3;
       }
 
   rose_so : (phases : List (List (List Line))) (text : List ℕ) (now : D) → HeldWhole tells view faults slots first now phases text (Some 0) → disk.Rose (faults first) (faults now)

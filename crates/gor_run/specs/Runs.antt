@@ -1,11 +1,14 @@
 -- What a run reads, what it writes, and what it leaves on its disks.
-use Rattle.std.specs.Prelude.{◌≡◌, ◌⊎◌, ℕ, ◌≤◌, List, [], ◌∷◌, ◌++◌, length, Option, Some, None, Bool, IsTrue}
+use Rattle.std.specs.Prelude.{◌≡◌, ◌⊎◌, ℕ, ◌≤◌, List, [], ◌∷◌, ◌++◌, length, Option, Some, None, Bool, IsTrue, ⊤}
 use Rattle.std.specs.List.{AllByRecursion, list_all}
 use Rattle.std.specs.Io.KnownBytes.{Appends}
 use Rattle.gor_disk.specs.Disk.{DiskView}
 use Rattle.gor_outside.specs.Causes.{Rose}
 use Rattle.gor_model.specs.declared.start.Start.{Start}
-use Rattle.gor_model.specs.Changes.{History}
+use Rattle.gor_model.specs.declared.event.Call.{Call}
+use Rattle.gor_model.specs.declared.event.Call.TheVariants as call
+use Rattle.gor_model.specs.declared.event.Event.{Event}
+use Rattle.gor_model.specs.Changes.{History, changed}
 use Rattle.gor_image.specs.declared.recovered.OpenFault.{OpenFault}
 use Rattle.gor_text.specs.declared.workload.Line.{Line}
 use Rattle.gor_text.specs.Workloads.{IsWorkloadText, IsFirstBad, is_good_line}
@@ -41,6 +44,18 @@ pub record IsGoodInput (input : List ℕ) : Type 0 where
   pub good : IsTrue (list_all (is_good_line is_taken_item) (lines_of input))
 
 -- ---- the session of a disk
+
+-- an event of the closing flush, which adds no change
+abbrev pub IsFlushCall : Call → Type 0
+IsFlushCall call.Take = ⊤
+IsFlushCall (call.Done None at) = ⊤
+IsFlushCall call.Stop = ⊤
+IsFlushCall _ = ⊥
+
+pub record IsOfLastFlush (e : Event) : Type 0 where
+  pub lane : e.lane ≡ 8
+  pub flushes : IsFlushCall e.call
+  pub adds_nothing : changed e.call e.reply ≡ None
 
 module _ {D : Type 0} (tells : Bool) (view : D → DiskView) (faults : D → ℕ) where
   -- a session on the disk, from its opening with so many slots, whose history begins with what the text tells of these phases
@@ -85,7 +100,7 @@ module _ {D : Type 0} (tells : Bool) (view : D → DiskView) (faults : D → ℕ
     pub appended : AppendsUntil held written whole.told.told.transcript.served
 
   -- Memory was wanting in a phase: the sink grew by the text of those before it, and besides their events the history has only
-  -- such of lines of this phase, and of lane 8.
+  -- such of lines of this phase, and those of a flush of lane 8, which add no change.
   pub record EndsInPart (slots : ℕ) (phases : List (List (List Line))) (held written : Option (List ℕ)) (disk now : D) : Type 0 where
     pub run : List (List (List Line))
     pub lanes : List (List Line)
@@ -93,7 +108,7 @@ module _ {D : Type 0} (tells : Bool) (view : D → DiskView) (faults : D → ℕ
     pub parts : phases ≡ run ++ lanes ∷ rest
     pub text : List ℕ
     pub part : HeldSession slots disk now run text
-    pub besides : AllByRecursion (λ e. (e.lane ≡ 8) ⊎ IsCallOf (lines_at lanes e.lane) e.call) part.told.later
+    pub besides : AllByRecursion (λ e. IsOfLastFlush e ⊎ IsCallOf (lines_at lanes e.lane) e.call) part.told.later
     pub appended : Appends held written text
 
   -- ---- the same of a run, whose phases the source gave

@@ -44,7 +44,7 @@ said_by shard (MergedPoints points) = []
 abbrev pub all_said : ℕ → List Act → List Said
 all_said shard acts = flat_map (said_by shard) acts
 
-abbrev of_printed : Printed → Said
+abbrev pub of_printed : Printed → Said
 of_printed p = record { number = p.number; call = p.call; reply = p.reply }
 
 map_flat : {A B C : Type 0} (f : B → C) (g : A → List B) (h : A → List C) → ((x : A) → map f (g x) ≡ h x) → (xs : List A) → map f (flat_map g xs) ≡ flat_map h xs
@@ -81,7 +81,7 @@ said_lanes shard phase lane (lines ∷ lanes) =
     ∙ (ap (λ (ys : List Said). all_said shard (acts_of lines) ++ ys) (said_lanes shard phase (lane + 1) lanes)
     ∙ sym (said_append shard lines (flat_lanes lanes))))
 
-said_phases : (shard phase : ℕ) (phases : List (List (List Served))) → map of_printed (printed_from shard phase phases) ≡ all_said shard (acts_of (flat_phases phases))
+pub said_phases : (shard phase : ℕ) (phases : List (List (List Served))) → map of_printed (printed_from shard phase phases) ≡ all_said shard (acts_of (flat_phases phases))
 said_phases shard phase [] = refl
 said_phases shard phase (lanes ∷ phases) =
     map-append of_printed (printed_lanes shard phase 0 lanes) (printed_from shard (phase + 1) phases)
@@ -187,7 +187,7 @@ each_with R S P gives (x ∷ xs) all each = (here xs all.1 each.0, each_with R S
   here [] more rels = tt
   here (y ∷ ys) more rels = (gives x y all.0 more.0 rels.0, here ys more.1 rels.1)
 
-all_of_map : {X Y : Type 0} (f : X → Y) (P : Y → Type 0) (xs : List X) → AllByRecursion (λ x. P (f x)) xs → AllByRecursion P (map f xs)
+pub all_of_map : {X Y : Type 0} (f : X → Y) (P : Y → Type 0) (xs : List X) → AllByRecursion (λ x. P (f x)) xs → AllByRecursion P (map f xs)
 all_of_map f P [] all = tt
 all_of_map f P (x ∷ xs) all = (all.0, all_of_map f P xs all.1)
 

@@ -10,4 +10,5 @@ pub mod AtRest
 pub mod Orders
 pub mod Counted
 pub mod SameActs
+pub mod NoStops
 pub mod OneTexts

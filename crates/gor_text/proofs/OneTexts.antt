@@ -13,9 +13,10 @@ use Rattle.gor_model.specs.Answers.{Legal}
 use Rattle.gor_text.specs.declared.workload.Line.{Line}
 use Rattle.gor_text.specs.LineAnswers.{Act, Made, Refused, MergedPoints, LineAnswers}
 use Rattle.gor_text.specs.Transcripts.{Served, Transcript, act_text, before_number, FinishSeals, text_of}
-use Rattle.gor_text.specs.OneText.{IsOfOneLane, StopsNothing, NeverStops, event_at_rest, IsSameHistory, OneText}
+use Rattle.gor_text.specs.OneText.{IsOfOneLane, StopsNothing, event_at_rest, IsSameHistory, OneText}
 use Rattle.gor_text.proofs.Interleavings.{all-append}
 use Rattle.gor_text.proofs.Counted.{flat_lanes, flat_phases, acts_of, all_said, Said, line_text, AreTold, counted, bumped, Tells, SayOn, tells-append, all_tell, all_are_told, one_lane_served, one_lane_text}
+use Rattle.gor_text.proofs.NoStops.{never_stops}
 use Rattle.gor_text.proofs.SameActs.{act_at_rest, counted_at_rest, counted-append, Agree, Same, line_same}
 
 -- ---- what is so of the lines of all phases
@@ -158,8 +159,8 @@ one_text shards starts lane phases text other some fits only t u goes also = bot
   same : Lines_same shards lane starts t.histories u.histories some fits legal also_legal zeros (flat_phases t.served) (flat_phases u.served)
   same = lines_same shards lane starts t.histories u.histories some fits legal also_legal zeros (flat_phases t.served) (flat_phases u.served)
       (map_phases (λ (s : Served). s.line) t.served ∙ (ap flat_phases (t.lines ∙ sym u.lines) ∙ sym (map_phases (λ (s : Served). s.line) u.served)))
-      (all_three _ _ _ _ (λ s answers goes seals. record { answers = answers; goes = goes; seals = seals }) (flat_phases t.served) (all_flatter _ t.served t.answers) (all_flatter _ t.served goes) (all_flatter _ t.served t.sealed))
-      (all_three _ _ _ _ (λ s answers goes seals. record { answers = answers; goes = goes; seals = seals }) (flat_phases u.served) (all_flatter _ u.served u.answers) (all_flatter _ u.served also) (all_flatter _ u.served u.sealed))
+      (all_three _ _ _ _ (λ s answers goes seals. record { answers = answers; goes = goes; seals = seals }) (flat_phases t.served) (all_flatter _ t.served t.answers) (never_stops shards starts t.histories t.served some t.printed goes (all_flatter _ t.served t.answers)) (all_flatter _ t.served t.sealed))
+      (all_three _ _ _ _ (λ s answers goes seals. record { answers = answers; goes = goes; seals = seals }) (flat_phases u.served) (all_flatter _ u.served u.answers) (never_stops shards starts u.histories u.served some u.printed also (all_flatter _ u.served u.answers)) (all_flatter _ u.served u.sealed))
       (record { each = λ s below. refl })
       (all_tell shards lane t.histories zeros (acts_of (flat_phases t.served)) (say t.histories t.served mine))
       (all_tell shards lane u.histories zeros (acts_of (flat_phases u.served)) (say u.histories u.served its))

@@ -70,7 +70,7 @@ legal_before : (start : Start) (later h : History) → Legal start (later ++ h) 
 legal_before start [] h legal = legal
 legal_before start (e ∷ later) h legal = legal_before start later h legal.0
 
-history_at : (H : History) (n : ℕ) (e : Event) → slice_get (reverse H) n ≡ Some e → H ≡ reverse (drop (suc n) (reverse H)) ++ (e ∷ before_number n H)
+pub history_at : (H : History) (n : ℕ) (e : Event) → slice_get (reverse H) n ≡ Some e → H ≡ reverse (drop (suc n) (reverse H)) ++ (e ∷ before_number n H)
 history_at H n e is =
     sym (reverse-reverse H) ∙ (ap reverse (split_at (reverse H) n e is) ∙ (reverse-append (take n (reverse H)) (e ∷ drop (suc n) (reverse H))
     ∙ (ap (λ (h : History). h ++ before_number n H) (reverse-cons e (drop (suc n) (reverse H))) ∙ one_behind (reverse (drop (suc n) (reverse H))) (before_number n H)))) where
@@ -78,7 +78,7 @@ history_at H n e is =
       one_behind [] ys = refl
       one_behind (x ∷ xs) ys = ap (λ (zs : History). x ∷ zs) (one_behind xs ys)
 
-legal_at : (start : Start) (H : History) (n : ℕ) (e : Event) → Legal start H → slice_get (reverse H) n ≡ Some e → Legal start (e ∷ before_number n H)
+pub legal_at : (start : Start) (H : History) (n : ℕ) (e : Event) → Legal start H → slice_get (reverse H) n ≡ Some e → Legal start (e ∷ before_number n H)
 legal_at start H n e legal is = legal_before start (reverse (drop (suc n) (reverse H))) (e ∷ before_number n H) (subst (Legal start) (history_at H n e is) legal)
 
 same_event : (e f : Event) → e.lane ≡ f.lane → e.slot ≡ f.slot → call_at_rest e.call ≡ call_at_rest f.call → e.reply ≡ f.reply → event_at_rest e ≡ event_at_rest f
@@ -118,6 +118,9 @@ floor_is : (stop b : Bool) (f g floor : ℕ) → reply.Floor floor ≡ (if stop 
 floor_is true b f g floor is = absurd (let both : reply.Floor floor ≡ reply.Stopped = is in cc)
 floor_is false true f g floor is = absurd (let both : reply.Floor floor ≡ reply.Sealed f = is in cc)
 floor_is false false f g floor is = ap (λ r. elim r as (λ _. ℕ) [ reply.Stored x ↦ 0 | reply.Late x ↦ 0 | reply.Closed x ↦ 0 | reply.Full x ↦ 0 | reply.Stopped ↦ 0 | reply.Points x ↦ 0 | reply.Absent ↦ 0 | reply.Gone ↦ 0 | reply.Floor x ↦ x | reply.Sealed x ↦ 0 | reply.Seal x ↦ 0 | reply.Take x ↦ 0 | reply.Done x ↦ 0 | reply.Stop ↦ 0 ]) is
+
+pub shard_below : (shards : ℕ) → 0 < shards → (name : List ℕ) → shard_of name shards < shards
+shard_below shards some name = mod-lt (fnv1a (key_of name)) some
 
 tri : (m n : ℕ) → (m < n) ⊎ ((m ≡ n) ⊎ (n < m))
 tri m n = by (nat_le (m + 1) n) refl (nat_le (n + 1) m) refl where
@@ -397,9 +400,6 @@ module _ (shards lane : ℕ) (starts : ℕ → Start) (H K : ℕ → History)
     pub same : Same ns a b
     pub lists_are : lists ≡ others
 
-  shard_below : 0 < shards → (name : List ℕ) → shard_of name shards < shards
-  shard_below some name = mod-lt (fnv1a (key_of name)) some
-
   gets_same : 0 < shards → (from to : ℕ) (names : List (List ℕ)) (ns : ℕ → ℕ) (a b : List Act) (lists others : List (List Point)) → Gets shards from to names a lists → Gets shards from to names b others
       → Agree ns → Ours ns a → Theirs ns b → SameGets ns a b lists others
   gets_same some from to _ ns _ _ _ _ none none agree one two = record { same = nothing ns agree; lists_are = refl }
@@ -413,7 +413,7 @@ module _ (shards lane : ℕ) (starts : ℕ → Start) (H K : ℕ → History)
   gets_same some from to _ ns _ _ _ _ (got name names acts lists n r good more) (got _ _ actions others m q fine mores) agree one two =
       let s = shard_of name shards in
       let c = call.Get (key_of name) from to in
-      let met = meet s n m c c r q ns (shard_below some name) agree (one.0 (shard_below some name)) (two.0 (shard_below some name)) refl in
+      let met = meet s n m c c r q ns (shard_below shards some name) agree (one.0 (shard_below shards some name)) (two.0 (shard_below shards some name)) refl in
       let rest = gets_same some from to names (bumped s ns) acts actions lists others more mores met.agree one.1 two.1 in record {
         same = in_front s n m c c r q ns acts actions refl met rest.same;
         lists_are = ap (λ x. points_of x ∷ lists) met.reply ∙ ap (λ (xs : List (List Point)). points_of q ∷ xs) rest.lists_are;
@@ -450,7 +450,7 @@ module _ (shards lane : ℕ) (starts : ℕ → Start) (H K : ℕ → History)
   line_same some ns _ _ _ (told.put name time word n r rest good timely follows) (told.put_time _ _ _ fine late) agree one two goes also seals sealed = absurd (omega (arith, late, timely))
   line_same some ns _ _ _ (told.put name time word n r rest good timely follows) (told.put _ _ _ m q rests fine early more) agree one two goes also seals sealed =
       let s = shard_of name shards in
-      let below = shard_below some name in
+      let below = shard_below shards some name in
       let c = call.Put name (key_of name) time word in
       let met = meet s n m c c r q ns below agree (one.0 below) (two.0 below) refl in
       in_front s n m c c r q ns rest rests refl met
@@ -464,12 +464,12 @@ module _ (shards lane : ℕ) (starts : ℕ → Start) (H K : ℕ → History)
   line_same some ns _ _ _ (told.get name from to n r good range) (told.get_name _ _ _ wrong) agree one two goes also seals sealed = absurd (wrong good)
   line_same some ns _ _ _ (told.get name from to n r good range) (told.get_range _ _ _ fine turned) agree one two goes also seals sealed = absurd (omega (arith, turned, range))
   line_same some ns _ _ _ (told.get name from to n r good range) (told.get _ _ _ m q fine also_range) agree one two goes also seals sealed =
-      alone (shard_of name shards) n m (call.Get (key_of name) from to) r q ns (shard_below some name) agree one two
+      alone (shard_of name shards) n m (call.Get (key_of name) from to) r q ns (shard_below shards some name) agree one two
   line_same some ns _ _ _ (told.del_name name bad) (told.del_name _ wrong) agree one two goes also seals sealed = refusal ns reason.Name agree
   line_same some ns _ _ _ (told.del_name name bad) (told.del _ m q good) agree one two goes also seals sealed = absurd (bad good)
   line_same some ns _ _ _ (told.del name n r good) (told.del_name _ wrong) agree one two goes also seals sealed = absurd (wrong good)
   line_same some ns _ _ _ (told.del name n r good) (told.del _ m q fine) agree one two goes also seals sealed =
-      alone (shard_of name shards) n m (call.Del (key_of name)) r q ns (shard_below some name) agree one two
+      alone (shard_of name shards) n m (call.Del (key_of name)) r q ns (shard_below shards some name) agree one two
   line_same some ns _ _ _ (told.flush_shard shard beyond) (told.flush_shard _ past) agree one two goes also seals sealed = refusal ns reason.Shard agree
   line_same some ns _ _ _ (told.flush_shard shard beyond) (told.flush _ acts below flushes) agree one two goes also seals sealed = absurd (omega (arith, beyond, below))
   line_same some ns _ _ _ (told.flush shard acts below flushes) (told.flush_shard _ past) agree one two goes also seals sealed = absurd (omega (arith, past, below))

@@ -1,5 +1,5 @@
 -- A workload of one lane has one text.
-use Rattle.std.specs.Prelude.{◌≡◌, ℕ, ◌<◌, zero, suc, List, [], ◌∷◌, map, reverse, take, ⊤}
+use Rattle.std.specs.Prelude.{◌≡◌, ℕ, ◌<◌, zero, suc, List, [], ◌∷◌, map, false, ⊤}
 use Rattle.std.specs.List.{AllByRecursion}
 use Rattle.gor_model.specs.declared.event.Call.{Call}
 use Rattle.gor_model.specs.declared.event.Call.TheVariants as call
@@ -7,9 +7,10 @@ use Rattle.gor_model.specs.declared.event.Event.{Event}
 use Rattle.gor_model.specs.declared.start.Start.{Start}
 use Rattle.gor_model.specs.Changes.{History}
 use Rattle.gor_model.specs.Starts.{IsStart}
+use Rattle.gor_model.specs.Answers.{is_stopped}
 use Rattle.gor_text.specs.declared.workload.Line.{Line}
 use Rattle.gor_text.specs.LineAnswers.{Act, Made, Refused, MergedPoints, LineAnswers}
-use Rattle.gor_text.specs.Transcripts.{Served, Transcript}
+use Rattle.gor_text.specs.Transcripts.{Transcript}
 
 -- in a phase no lane but this one has lines
 abbrev pub HasOnlyLane : {X : Type 0} → ℕ → List (List X) → Type 0
@@ -25,8 +26,9 @@ abbrev pub StopsNothing : Act → Type 0
 StopsNothing (Made shard number call.Stop reply) = ⊥
 StopsNothing act = ⊤
 
-abbrev pub NeverStops : List (List (List Served)) → Type 0
-NeverStops served = AllByRecursion (AllByRecursion (AllByRecursion (λ s. AllByRecursion StopsNothing s.acts))) served
+-- no shard of a transcript was stopped
+abbrev pub NeverStops : ℕ → (ℕ → History) → Type 0
+NeverStops shards histories = (shard : ℕ) → shard < shards → is_stopped (histories shard) ≡ false
 
 -- an event but for the moment of a Done, on which no answer depends
 abbrev pub call_at_rest : Call → Call
@@ -46,5 +48,5 @@ abbrev pub OneText : Type 0
 OneText = (shards : ℕ) (starts : ℕ → Start) (lane : ℕ) (phases : List (List (List Line))) (text other : List ℕ)
     → 0 < shards → ((shard : ℕ) → shard < shards → IsStart (starts shard)) → IsOfOneLane lane phases
     → (t : Transcript (LineAnswers shards) shards starts phases text) → (u : Transcript (LineAnswers shards) shards starts phases other)
-    → NeverStops t.served → NeverStops u.served
+    → NeverStops shards t.histories → NeverStops shards u.histories
     → (text ≡ other) × ((shard : ℕ) → shard < shards → IsSameHistory (t.histories shard) (u.histories shard))
