@@ -8,3 +8,4 @@ pub mod ServeEnds
 pub mod RunSteps
 pub mod RunEnds
 mod DumpParts
+pub mod OnlyTexts

@@ -13,9 +13,13 @@ use Rattle.gor_image.specs.declared.recovered.OpenFault.{OpenFault}
 use Rattle.gor_text.specs.declared.workload.Line.{Line}
 use Rattle.gor_text.specs.Workloads.{IsWorkloadText, IsFirstBad, is_good_line}
 use Rattle.gor_text.specs.Grammar.{lines_of}
+use Rattle.gor_text.specs.LineAnswers.{LineAnswers}
+use Rattle.gor_text.specs.Transcripts.{Transcript}
+use Rattle.gor_text.specs.OneText.{IsOfOneLane, NeverStops}
 use Rattle.gor_store.specs.LineCalls.{IsCallOf}
 use Rattle.gor_store.specs.Phases.{lines_at}
 use Rattle.gor_store.specs.Sessions.{Session, SessionEnds, IsToldBy, IsToldWhole}
+use Rattle.gor_store.specs.Shards.{BeginsFrom}
 use Rattle.gor_store.specs.Stores.{WasRefused}
 use Rattle.gor_run.specs.Inputs.{most_input, IsWhole}
 use Rattle.gor_run.specs.Words.{slots_of_run}
@@ -42,6 +46,11 @@ pub record HasBadLine (before after : Option (List ℕ)) (n : ℕ) : Type 0 wher
 pub record IsGoodInput (input : List ℕ) : Type 0 where
   pub short : length input ≤ most_input
   pub good : IsTrue (list_all (is_good_line is_taken_item) (lines_of input))
+
+-- where one lane alone has lines, every text that answers them from this start, with no shard stopped, is this one
+abbrev pub IsOnlyText : Start → List (List (List Line)) → List ℕ → Type 0
+IsOnlyText start phases text = (lane : ℕ) (other : List ℕ) → IsOfOneLane lane phases
+    → (t : Transcript (LineAnswers 1) 1 (λ shard. start) phases other) → NeverStops 1 t.histories → other ≡ text
 
 -- ---- the session of a disk
 
@@ -143,3 +152,15 @@ module _ {D : Type 0} (tells : Bool) (view : D → DiskView) (faults : D → ℕ
     pub phases : List (List (List Line))
     pub asked : IsAsked words before after slots phases
     pub refused : WasRefused 1 0 slots tells view faults fault disk now
+
+  -- Where one lane alone had lines, what was written is the only text that answers them, from what the disk recovered to, with
+  -- no shard stopped.
+  pub record WritesOneText (words : List (List ℕ)) (before after held written : Option (List ℕ)) (disk now : D) : Type 0 where
+    pub slots : ℕ
+    pub phases : List (List (List Line))
+    pub asked : IsAsked words before after slots phases
+    pub start : Start
+    pub begins : BeginsFrom 1 0 slots tells (view disk) (faults disk) start
+    pub text : List ℕ
+    pub appended : Appends held written text
+    pub only : IsOnlyText start phases text

@@ -13,7 +13,7 @@ ghost use Rattle.gor_run.specs.Inputs.{most_input, IsTooLong};
 ghost use Rattle.gor_run.specs.TakenLines.{is_taken_item};
 ghost use Rattle.gor_run.specs.Serving.{unopened_status};
 ghost use Rattle.gor_run.specs.Statuses.{CallsNoDisk, WritesNothing};
-ghost use Rattle.gor_run.specs.Runs.{Answers, BreaksOff, HasBadLine, IsGoodInput, IsUnopened, RunsShort, Stops};
+ghost use Rattle.gor_run.specs.Runs.{Answers, BreaksOff, HasBadLine, IsGoodInput, IsUnopened, RunsShort, Stops, WritesOneText};
 
 use crate::outcome::Outcome;
 use crate::reading::read_workload;
@@ -64,6 +64,9 @@ pub fn run<
     // The headline.
     ensures answered { result.status ≡ Status.Ok → CallsFirst (λ disk now. Answers D.tells D.view D.faults (words_of words.now) (S.left source.old) (S.left source.new) (K.held sink.old) (K.held sink.new) disk now) disks.items result.disks.items }
     ensures quiet { result.status ≡ Status.Ok → K.faults sink.new ≡ K.faults sink.old }
+
+    // Where one lane alone has lines and the disk did not fail, what was written is the only text that answers them.
+    ensures one_text { result.status ≡ Status.Ok → CallsFirst (λ disk now. ¬ (DiskRose (D.faults disk) (D.faults now)) → WritesOneText D.tells D.view D.faults (words_of words.now) (S.left source.old) (S.left source.new) (K.held sink.old) (K.held sink.new) disk now) disks.items result.disks.items }
 
     // A shard that could not be opened, or that was stopped.
     ensures device_fault { (shard : ℕ) → result.status ≡ Status.DeviceFault shard → CallsFirst (λ disk now. (shard ≡ 0) × DiskRose (D.faults disk) (D.faults now) × ((IsUnopened D.tells D.view D.faults (words_of words.now) (S.left source.old) (S.left source.new) OpenFault.Disk disk now × Keeps (K.held sink.old) (K.held sink.new) × (K.faults sink.new ≡ K.faults sink.old)) ⊎ Stops D.tells D.view D.faults (words_of words.now) (S.left source.old) (S.left source.new) (K.held sink.old) (K.held sink.new) (K.faults sink.old) (K.faults sink.new) disk now)) disks.items result.disks.items }

@@ -9,6 +9,7 @@ use Rattle.gor_run.specs.declared.status.Status.TheVariants as status
 use Rattle.gor_run.proofs.Taken.{text_taken, text_few}
 use Rattle.gor_run.proofs.RunSteps.{run_within, first_of, not_called, keeps_itself, no_fault, long_unread, bad_unread, good_unread, read_not_long, read_not_bad}
 use Rattle.gor_run.proofs.RunEnds.{asked_for, opened_first, opened_answered, opened_quiet, opened_device, opened_write, opened_memory, opened_writes, opened_calls, opened_complete, opened_refused, none_other, unopened_first, unopened_other, unopened_ok, unopened_write, unopened_device, unopened_image, unopened_memory, unopened_refused, unopened_complete}
+use Rattle.gor_run.proofs.OnlyTexts.{first_also, writes_one_text}
 use Rattle.gor_run.proofs.program.run.Goals as goal
 
 pub overflow_cast-slots : goal.overflow_cast-slots
@@ -348,3 +349,12 @@ returns-clause-complete g c =
     (asked_for (words_of c.args.words.now) (g.S.Source.left c.args.source.now) (g.S.Source.left c.read_workload.new.source) c.in-Some.slots (lines_in c.in-Ok.workload) (sym c.in-Some.ensures) c.in-Ok.ensures.read)
     c.args.disks.items c.unopened.result.disks.items c.unopened.result.status
     (unopened_first g.D.Disk.tells g.D.Disk.view g.D.Disk.faults c.in-Some.slots c.args.disks.items c.in-Err-open.refused c.unopened.result (first_of c.args.disks.items c.requires.sixteen) c.in-Err-open.ensures.refused c.unopened.ensures.status c.unopened.ensures.disks) slots named
+
+pub returns-in-Err-clause-one_text : goal.returns-in-Err-clause-one_text
+returns-in-Err-clause-one_text g c = λ is. first_also _ _ (λ disk now answers quiet. writes_one_text g.D.Disk.tells g.D.Disk.view g.D.Disk.faults _ _ _ _ _ disk now answers quiet) _ _ (returns-in-Err-clause-answered g c is)
+
+pub returns-in-Ok-open-clause-one_text : goal.returns-in-Ok-open-clause-one_text
+returns-in-Ok-open-clause-one_text g c = λ is. first_also _ _ (λ disk now answers quiet. writes_one_text g.D.Disk.tells g.D.Disk.view g.D.Disk.faults _ _ _ _ _ disk now answers quiet) _ _ (returns-in-Ok-open-clause-answered g c is)
+
+pub returns-clause-one_text : goal.returns-clause-one_text
+returns-clause-one_text g c = λ is. first_also _ _ (λ disk now answers quiet. writes_one_text g.D.Disk.tells g.D.Disk.view g.D.Disk.faults _ _ _ _ _ disk now answers quiet) _ _ (returns-clause-answered g c is)
