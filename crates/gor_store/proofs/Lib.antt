@@ -25,3 +25,4 @@ pub mod DiskOrder
 pub mod NinePasses
 pub mod ClosingLaws
 pub mod OpeningLaws
+pub mod OpenAgain

@@ -1,8 +1,9 @@
 -- One session of a shard: from the moment at which its disk was handed in until it comes back.
-use Rattle.std.specs.Prelude.{◌≡◌, ℕ, ◌≤◌, List, ◌++◌, map, Option, None, is_some, Bool, true, false, IsTrue, filter_map}
+use Rattle.std.specs.Prelude.{◌≡◌, ◌⊎◌, ℕ, ◌≤◌, List, ◌++◌, map, Option, None, is_some, Ok, Err, Bool, true, false, IsTrue, filter_map}
 use Rattle.std.specs.List.{AllByRecursion}
 use Rattle.gor_disk.specs.Disk.{DiskView, Contents, LeavesSince, NothingPending, Rose}
 use Rattle.gor_model.specs.declared.event.Event.{Event}
+use Rattle.gor_model.specs.declared.event.Change.{Change}
 use Rattle.gor_model.specs.declared.start.Start.{Start}
 use Rattle.gor_model.specs.Answers.{Legal, is_stopped}
 use Rattle.gor_model.specs.Changes.{History, changes}
@@ -10,6 +11,10 @@ use Rattle.gor_model.specs.Lists.{EachBefore}
 use Rattle.gor_model.specs.Shares.{DoneAt, done_at}
 use Rattle.gor_flush.specs.Devices.{HoldsPrefix, last_count}
 use Rattle.gor_image.specs.Fit.{IsFitFor, FitHolds}
+use Rattle.gor_image.specs.Holding.{HoldsState}
+use Rattle.gor_image.specs.Images.{opens_to}
+use Rattle.gor_image.specs.Recovery.{ShardMap}
+use Rattle.gor_image.specs.declared.fault.ImageFault.TheVariants as fault
 use Rattle.gor_text.specs.LineAnswers.{LineAnswers}
 use Rattle.gor_text.specs.Transcripts.{Transcript, text_of}
 use Rattle.gor_text.specs.declared.workload.Line.{Line}
@@ -108,3 +113,20 @@ module _ {D : Type 0} (tells : Bool) (view : D → DiskView) (faults : D → ℕ
       → shards ≡ start.shards → shard ≡ start.shard → (IsFitFor shards shard given → start.fit ≡ true) → AllByRecursion (AllByRecursion AreTaken) phases
       → (served : HaveServed passes phases (only_last events) text) → ClosesBy stopped events → (closed : HasClosed tells view faults start 9 passes new)
       → (told : IsToldWhole start phases text closed.history) × (told.told.transcript.served ≡ served_in served.runs) × SessionEnds shards shard given tells (view new) start closed.history stopped
+
+-- the image is fit, and opens again with the same home and slots to the state after a prefix of these changes, unless its numbers
+-- have come to their limit
+pub record OpensAgain (shards shard slots : ℕ) (start : Start) (C : List Change) (image : Contents) : Type 0 where
+  pub later : List Change
+  pub prefix : List Change
+  pub all : later ++ prefix ≡ C
+  pub fit : IsFitFor shards shard image
+  pub map : ShardMap
+  pub state : HoldsState map start prefix
+  pub opens : (opens_to image shards shard slots ≡ Ok map) ⊎ (opens_to image shards shard slots ≡ Err (fault.Worn map.next))
+
+-- Whatever a crash leaves of a session's disk, at any moment of it, opens again; so a next session begins from it.
+abbrev pub ImagesOpenAgain : {D : Type 0} → Bool → (D → DiskView) → (D → ℕ) → Type 0
+ImagesOpenAgain {D} tells view faults = (shards shard slots : ℕ) (old new : D) (start : Start) (h : History)
+    → Session shards shard slots tells view faults old new start h → IsTrue tells → IsFitFor shards shard (view old).seen
+    → LeavesSince (view old).moment (view new) (OpensAgain shards shard slots start (changes h))

@@ -1,4 +1,4 @@
-ghost use Rattle.gor_store.specs.Sessions.{SessionStands, SessionIsWhole};
+ghost use Rattle.gor_store.specs.Sessions.{ImagesOpenAgain, SessionStands, SessionIsWhole};
 ghost use Rattle.gor_store.specs.Stories.{OneHistory, OneHistoryBegins};
 ghost use Rattle.gor_store.specs.WorkedStory.{WorkedStory};
 ghost use Rattle.gor_store.specs.Works.{WorkStarts, PhaseIsDone, LastIsDone, WorkIsCounted, AddedIsLater, WorkIsTold, WorkIsClosed, LaterIsLast};
@@ -43,4 +43,7 @@ pub fn session_laws<D: Disk>()
     // Where nothing but a last flush came after the phases, its events are of lane 8 and add no change. A Stop stands exactly
     // where that flush was not answered; and where it was, nothing is pending, and every image holds all changes.
     ensures whole { SessionIsWhole D.tells D.view D.faults }
+    // Where the files were fit as the disk was handed in, every image of every moment of the session opens again with the same
+    // home and slots, to the state after a prefix of its changes, or its numbers are worn. So a next session begins from it.
+    ensures again { ImagesOpenAgain D.tells D.view D.faults }
 {}
