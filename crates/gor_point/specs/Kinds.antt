@@ -1,12 +1,62 @@
--- What a part is.
-use Rattle.std.specs.Prelude.{⊤}
+-- A part that stands for the share of an object is of that object's kind, and what it is made of stands for that share.
+use Rattle.std.specs.Prelude.{◌≡◌, ℕ, Bool, Option, refl}
+use Rattle.std.proofs.Common.{sym, subst}
+use Rattle.gor_disk.specs.Disk.{DiskView}
+use Rattle.gor_model.specs.declared.start.Start.{Start}
+use Rattle.gor_model.specs.Shares.{Share, OfDirectory, OfSlot, OfJournal, DirectoryShare, SeriesShare, JournalShare}
+use Rattle.gor_cell.specs.declared.cell.Cell.{Cell}
+use Rattle.gor_cell.specs.Stands as cell
+use Rattle.gor_dir.specs.Listings.{Listing}
+use Rattle.gor_dir.specs.Listings as index
+use Rattle.gor_journal.specs.Bodies.{Kept}
+use Rattle.gor_journal.specs.Stands as log
+use Rattle.gor_flush.specs.Parts.{part_stands}
 use Rattle.gor_flush.specs.declared.part.Part.{Part}
-use Rattle.gor_flush.specs.declared.part.Part.TheVariants.{Directory, Series}
+use Rattle.gor_flush.specs.declared.part.Part.TheVariants as part
 
-abbrev pub IsIndex : {D : Type 0} → Part D → Type 0
-IsIndex (Directory d) = ⊤
-IsIndex _ = ⊥
+module _ {D : Type 0} (tells : Bool) (shows : D → DiskView) (faults : D → ℕ) (start : Start) (o : ℕ) (x : Part D) where
+  -- ---- by the kind of the share
 
-abbrev pub IsCell : {D : Type 0} → Part D → Type 0
-IsCell (Series c) = ⊤
-IsCell _ = ⊥
+  pub some_directory : (d : DirectoryShare) → part_stands tells shows faults start o x (OfDirectory d) → (i : Listing) × (x ≡ part.Directory i)
+  some_directory d st = at x st where
+    at : (y : Part D) → part_stands tells shows faults start o y (OfDirectory d) → (i : Listing) × (y ≡ part.Directory i)
+    at (part.Device device) s = absurd s
+    at (part.Directory i) s = (i, refl)
+    at (part.Series c) s = absurd s
+    at (part.Journal j) s = absurd s
+
+  pub some_series : (share : Option SeriesShare) → part_stands tells shows faults start o x (OfSlot share) → (c : Cell) × (x ≡ part.Series c)
+  some_series share st = at x st where
+    at : (y : Part D) → part_stands tells shows faults start o y (OfSlot share) → (c : Cell) × (y ≡ part.Series c)
+    at (part.Device device) s = absurd s
+    at (part.Directory i) s = absurd s
+    at (part.Series c) s = (c, refl)
+    at (part.Journal j) s = absurd s
+
+  pub some_journal : (share : JournalShare) → part_stands tells shows faults start o x (OfJournal share) → (j : Kept) × (x ≡ part.Journal j)
+  some_journal share st = at x st where
+    at : (y : Part D) → part_stands tells shows faults start o y (OfJournal share) → (j : Kept) × (y ≡ part.Journal j)
+    at (part.Device device) s = absurd s
+    at (part.Directory i) s = absurd s
+    at (part.Series c) s = absurd s
+    at (part.Journal j) s = (j, refl)
+
+  -- ---- what it is made of
+
+  pub directory_in : (i : Listing) (d : DirectoryShare) → x ≡ part.Directory i → part_stands tells shows faults start o x (OfDirectory d) → index.Stands i d
+  directory_in i d is st = subst (λ (y : Part D). part_stands tells shows faults start o y (OfDirectory d)) is st
+
+  pub series_in : (c : Cell) (share : Option SeriesShare) → x ≡ part.Series c → part_stands tells shows faults start o x (OfSlot share) → cell.Stands c.live share
+  series_in c share is st = subst (λ (y : Part D). part_stands tells shows faults start o y (OfSlot share)) is st
+
+  pub journal_in : (j : Kept) (share : JournalShare) → x ≡ part.Journal j → part_stands tells shows faults start o x (OfJournal share) → log.Stands j.pending share
+  journal_in j share is st = subst (λ (y : Part D). part_stands tells shows faults start o y (OfJournal share)) is st
+
+  pub directory_out : (i : Listing) (d : DirectoryShare) → x ≡ part.Directory i → index.Stands i d → part_stands tells shows faults start o x (OfDirectory d)
+  directory_out i d is st = subst (λ (y : Part D). part_stands tells shows faults start o y (OfDirectory d)) (sym is) st
+
+  pub series_out : (c : Cell) (share : Option SeriesShare) → x ≡ part.Series c → cell.Stands c.live share → part_stands tells shows faults start o x (OfSlot share)
+  series_out c share is st = subst (λ (y : Part D). part_stands tells shows faults start o y (OfSlot share)) (sym is) st
+
+  pub journal_out : (j : Kept) (share : JournalShare) → x ≡ part.Journal j → log.Stands j.pending share → part_stands tells shows faults start o x (OfJournal share)
+  journal_out j share is st = subst (λ (y : Part D). part_stands tells shows faults start o y (OfJournal share)) (sym is) st

@@ -1,11 +1,1 @@
-pub mod Views
-pub mod Points
-pub mod Moves
-pub mod Gets
-pub mod Pauses
-pub mod Tries
 pub mod Kinds
-pub mod Held
-pub mod Dels
-pub mod Puts
-pub mod TestShards

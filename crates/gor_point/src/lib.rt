@@ -4,34 +4,18 @@
 //! its part of the work. The series may be deleted and its slot used again before it is taken: the call compares its key, and
 //! where it differs it looks up again and keeps the directory, so that the second try decides.
 //!
-//! - `parts`: one object taken, and given back, as what its number says.
-//! - `pause`: the pause of a get, which is called in one place and counted by the pass.
-//! - `get`, `try_get`, `del`, `put`: the four calls.
+//! The steps stand in `gor_steps`, which knows nothing of a disk. Here they are those of a shard of `Part`s.
+//!
+//! - `kinds`: which of its parts are the directory, a series and the journal.
+//! - `calls`: `get`, `try_get`, `del`, `put`.
 #![tactic(auto)]
 
-mod begins;
-mod dels;
-mod gets;
-mod held;
-mod parts;
-mod pause;
-mod put_call;
-mod puts;
-mod reads;
-mod tries;
+mod calls;
+mod kinds;
 
-pub use dels::{DelAnswer, DelFault, DelReply, del};
-pub use gets::{GetAnswer, GetFault, GetReply, get};
-pub use parts::Shard;
-pub use put_call::put;
-pub use puts::{PutAnswer, PutFault, PutReply};
-pub use tries::{TryFault, try_get};
-
-#[cfg(test)]
-mod tests;
-#[cfg(test)]
-mod tests_pause;
-#[cfg(test)]
-mod tests_shard;
-#[cfg(test)]
-mod tests_slots;
+pub use calls::{del, get, put, try_get};
+pub use gor_steps::{
+    DelAnswer, DelFault, DelReply, GetAnswer, GetFault, GetReply, PutAnswer, PutFault, PutReply,
+    TryFault,
+};
+pub use kinds::{OfShard, Shard};

@@ -15,14 +15,14 @@ use Rattle.gor_finish.specs.Made.{Numbered}
 use Rattle.gor_finish.specs.Flushes.{IsFlush, take_made, take_refused, done_made, stop_made}
 use Rattle.gor_finish.specs.declared.reply.FlushReply.{FlushReply}
 use Rattle.gor_finish.specs.declared.reply.FlushReply.TheVariants as flushed
-use Rattle.gor_point.specs.Points.{Makes, said, GetRefused}
-use Rattle.gor_point.specs.declared.gets.GetFault.{GetFault}
-use Rattle.gor_point.specs.declared.gets.GetFault.TheVariants as get
-use Rattle.gor_point.specs.Puts.{put_reply, PutRefused}
-use Rattle.gor_point.specs.declared.puts.PutFault.{PutFault}
-use Rattle.gor_point.specs.declared.puts.PutFault.TheVariants as put_fault
-use Rattle.gor_point.specs.declared.puts.PutAnswer.{PutAnswer}
-use Rattle.gor_point.specs.declared.puts.PutAnswer.TheVariants as answer
+use Rattle.gor_steps.specs.Points.{Makes, said, GetRefused}
+use Rattle.gor_steps.specs.declared.gets.GetFault.{GetFault}
+use Rattle.gor_steps.specs.declared.gets.GetFault.TheVariants as get
+use Rattle.gor_steps.specs.Puts.{put_reply, PutRefused}
+use Rattle.gor_steps.specs.declared.puts.PutFault.{PutFault}
+use Rattle.gor_steps.specs.declared.puts.PutFault.TheVariants as put_fault
+use Rattle.gor_steps.specs.declared.puts.PutAnswer.{PutAnswer}
+use Rattle.gor_steps.specs.declared.puts.PutAnswer.TheVariants as answer
 use Rattle.gor_text.specs.Spelling.{answer_line, what_line}
 use Rattle.gor_text.specs.Transcripts.{act_text}
 use Rattle.gor_text.specs.declared.answer.LaneAnswer.{LaneAnswer}

@@ -17,7 +17,7 @@ use Rattle.gor_hall.specs.declared.pass.Pass.{Pass}
 use Rattle.gor_hall.specs.Halls.{IsPassOf}
 use Rattle.gor_hall.specs.Passes.{seen, made, held, lane_of, left_of_pass}
 use Rattle.gor_finish.specs.Made.{Numbered, StandsIn, HasMade}
-use Rattle.gor_point.specs.Points.{said, Makes, MakesNone}
+use Rattle.gor_steps.specs.Points.{said, Makes, MakesNone}
 use Rattle.gor_text.proofs.Interleavings.{all-map}
 use Rattle.gor_text.specs.LineAnswers.{Act, Made}
 use Rattle.gor_text.specs.Transcripts.{printed_act}

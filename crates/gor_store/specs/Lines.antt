@@ -16,8 +16,8 @@ use Rattle.gor_model.specs.declared.event.Reply.{Reply}
 use Rattle.gor_model.specs.declared.event.Reply.TheVariants as reply
 use Rattle.gor_finish.specs.declared.reply.FlushReply.{FlushReply}
 use Rattle.gor_finish.specs.declared.reply.FlushReply.TheVariants.{Flushed, Stopped, Fault}
-use Rattle.gor_point.specs.declared.puts.PutAnswer.{PutAnswer}
-use Rattle.gor_point.specs.declared.puts.PutAnswer.TheVariants as answer
+use Rattle.gor_steps.specs.declared.puts.PutAnswer.{PutAnswer}
+use Rattle.gor_steps.specs.declared.puts.PutAnswer.TheVariants as answer
 use Rattle.gor_text.specs.declared.workload.Line.{Line}
 use Rattle.gor_text.specs.declared.workload.Line.TheVariants.{Put, Get, Del, Flush}
 use Rattle.gor_text.specs.LineAnswers.{Act, LineAnswers, Flushes}

@@ -1,6 +1,6 @@
 use Rattle.std.proofs.Common.{rules, ◌≡◌, sym, ap, ◌∙◌, subst}
 use Rattle.gor_model.specs.Names.{IsName}
-use Rattle.gor_point.specs.Dels.{del_reply}
+use Rattle.gor_steps.specs.Dels.{del_reply}
 use Rattle.gor_text.specs.LineAnswers.{LineAnswers}
 use Rattle.gor_text.specs.declared.answer.Reason.TheVariants as reason
 use Rattle.gor_text.specs.declared.answer.What.{What}

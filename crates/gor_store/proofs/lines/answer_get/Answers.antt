@@ -1,6 +1,6 @@
 use Rattle.std.proofs.Common.{rules, ◌≡◌, ℕ, List, ap, ◌∙◌, subst}
 use Rattle.gor_model.specs.Names.{IsName}
-use Rattle.gor_point.specs.Points.{GetRefused}
+use Rattle.gor_steps.specs.Points.{GetRefused}
 use Rattle.gor_text.specs.LineAnswers.{LineAnswers}
 use Rattle.gor_text.specs.declared.answer.Reason.TheVariants as reason
 use Rattle.gor_text.specs.declared.answer.What.{What}
@@ -22,9 +22,9 @@ returns-in-Ok-clause-told g c =
     let e = c.in-Ok.ensures.event in
     let same : c.in-Some.name ≡ c.args.name.now = search rules in
     let named : IsName c.args.name.now = search rules in
-    let is : c.event_of.result ≡ what_.Event 0 c.in-Ok.reply.number (Rattle.gor_point.specs.Points.get_reply c.in-Ok.reply.answer) = c.event_of.ensures ∙ ap (what_.Event 0 c.in-Ok.reply.number) c.get_told.ensures in
+    let is : c.event_of.result ≡ what_.Event 0 c.in-Ok.reply.number (Rattle.gor_steps.specs.Points.get_reply c.in-Ok.reply.answer) = c.event_of.ensures ∙ ap (what_.Event 0 c.in-Ok.reply.number) c.get_told.ensures in
     subst (λ (w : What). IsTold (line_.Get c.args.name.now c.args.from c.args.to) c.args.pass.now c.get.new.pass w) (Rattle.std.proofs.Common.sym is)
-    (told_get c.args.name.now c.in-Some.name c.args.from c.args.to c.args.pass.now c.get.new.pass c.in-Ok.reply.number (Rattle.gor_point.specs.Points.get_reply c.in-Ok.reply.answer) same named e.0 e.1)
+    (told_get c.args.name.now c.in-Some.name c.args.from c.args.to c.args.pass.now c.get.new.pass c.in-Ok.reply.number (Rattle.gor_steps.specs.Points.get_reply c.in-Ok.reply.answer) same named e.0 e.1)
 
 pub returns-in-Err-Range-clause-told : goal.returns-in-Err-Range-clause-told
 returns-in-Err-Range-clause-told g c =

@@ -6,8 +6,8 @@ use Rattle.gor_text.specs.declared.answer.What.TheVariants as what_
 use Rattle.gor_text.specs.declared.workload.Line.TheVariants as line_
 use Rattle.gor_store.specs.LineCalls.{Calls}
 use Rattle.gor_store.proofs.RunLaws.{no_run, none_run, none_made}
-use Rattle.gor_point.specs.Puts.{PutRefused}
-use Rattle.gor_point.specs.declared.puts.PutFault.TheVariants as put_fault
+use Rattle.gor_steps.specs.Puts.{PutRefused}
+use Rattle.gor_steps.specs.declared.puts.PutFault.TheVariants as put_fault
 use Rattle.gor_store.proofs.LineLaws.{put_refused, put_late, told_put}
 use Rattle.gor_store.proofs.lines.answer_put.Goals as goal
 

@@ -1,0 +1,34 @@
+-- A device of an empty disk that tells nothing stands for a shard of any rows.
+use Rattle.std.proofs.Common.{◌≡◌, ℕ, ◌+◌, ◌<◌, ◌≤◌, Bool, true, false, List, [], length, refl, sym, ◌∙◌, arith}
+use Rattle.std.proofs.lemmas.Bool.{false≢true}
+use Rattle.std.specs.Prelude.{IsTrue}
+use Rattle.gor_model.specs.Shares.{device_share}
+use Rattle.gor_image.specs.declared.recovered.Recovered.{Recovered}
+use Rattle.gor_flush.specs.Devices.{Shown, StandsFor}
+use Rattle.gor_flush.specs.Starts.{opened_start, start_with}
+use Rattle.gor_shard_tests.specs.Devices.{IsOfAnyRows}
+
+pub of_any_rows : (d : Shown) (r : Recovered) → d.tells ≡ false → r.floor ≡ 0 → r.next ≡ 1 → StandsFor d (start_with 2 r d) (device_share (start_with 2 r d) []) → IsOfAnyRows d
+unfolding opened_start
+of_any_rows d r silent floor next st = record {
+  stands = λ slots rows some. record {
+    shards_are = refl;
+    shard_is = refl;
+    opened = refl;
+    begun = refl;
+    stopped = st.stopped;
+    since = st.since;
+    runs = record {
+      faults = st.runs.faults;
+      empty = st.runs.empty;
+      written = st.runs.written;
+      done = st.runs.done;
+      marks = st.runs.marks;
+      tops = st.runs.tops;
+      behind = record { floor = (let f = st.runs.behind.floor in omega (arith, f, floor)); upto = (let u = st.runs.behind.upto in omega (arith, u, next, some)) };
+      files = st.runs.files;
+      ensured = st.runs.ensured;
+    };
+    images = λ told fit. absurd (false≢true (sym silent ∙ told));
+  };
+}

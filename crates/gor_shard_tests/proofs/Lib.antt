@@ -1,0 +1,3 @@
+pub mod AnyRows
+pub mod Starts
+pub mod TwoPasses

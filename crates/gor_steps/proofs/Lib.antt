@@ -1,0 +1,13 @@
+pub mod PartLaws
+pub mod ViewLaws
+pub mod ReadLaws
+pub mod PauseLaws
+pub mod FindLaws
+pub mod MoveLaws
+pub mod GetMoves
+pub mod Bounds
+pub mod DelLaws
+pub mod PutLaws
+pub mod Uids
+pub mod BeginLaws
+pub mod PutMoves

@@ -1,0 +1,9 @@
+pub mod Views
+pub mod Points
+pub mod Moves
+pub mod Gets
+pub mod Pauses
+pub mod Tries
+pub mod Held
+pub mod Dels
+pub mod Puts
