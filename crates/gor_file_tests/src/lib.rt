@@ -11,4 +11,8 @@
 #[cfg(test)]
 mod disks;
 #[cfg(test)]
+mod gates;
+#[cfg(test)]
+mod pairs;
+#[cfg(test)]
 mod silent;

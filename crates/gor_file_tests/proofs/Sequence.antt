@@ -5,7 +5,7 @@ use Rattle.gor_disk.proofs.Runs.{only_settled, still, started, goes_on}
 use Rattle.gor_gate.proofs.Ensured.{closed_if_ready, as_it_is}
 use Rattle.gor_gate.specs.Gates.{gates, pushed, IsReady, IsClosed, IsOldOrNew}
 use Rattle.gor_gate.specs.Places.{Place, IsEnsured}
-use Rattle.gor_gate.specs.Pairs.{IsBetween}
+use Rattle.gor_file_tests.specs.Pairs.{IsBetween}
 
 module _ (first second : Place) (two : first.file ≢ second.file) (first_body second_body : List ℕ) (old : DiskView) (first_ready : IsEnsured first old) (second_ready : IsEnsured second old) where
   abbrev pub P : Contents → Type 0

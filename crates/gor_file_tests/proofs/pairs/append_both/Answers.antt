@@ -1,5 +1,5 @@
-use Rattle.gor_gate.proofs.Sequence.{one_run, both_run}
-use Rattle.gor_gate.proofs.pairs.append_both.Goals as goal
+use Rattle.gor_file_tests.proofs.Sequence.{one_run, both_run}
+use Rattle.gor_file_tests.proofs.pairs.append_both.Goals as goal
 
 pub returns-in_err-append-clause-any_moment : goal.returns-in_err-append-clause-any_moment
 returns-in_err-append-clause-any_moment g c = λ t.

@@ -1,12 +1,12 @@
-// Two appends to two files, one after the other: a caller that knows no more of an append than what it promises.
+//! Two appends to two files, one after the other: a caller that knows no more of an append than what it promises.
 ghost use Rattle.std.specs.Prelude.{◌≡◌, ◌≢◌, IsTrue, OnOk};
 ghost use Rattle.gor_disk.specs.Disk.{Runs, CountsFault};
 ghost use Rattle.gor_gate.specs.Gates.{gates, pushed};
 ghost use Rattle.gor_gate.specs.Places.{IsEnsured};
-ghost use Rattle.gor_gate.specs.Pairs.{IsBetween};
+ghost use Rattle.gor_file_tests.specs.Pairs.{IsBetween};
 
-use crate::{Frame, Gated};
 use gor_disk::{Disk, DiskFailed};
+use gor_gate::{Frame, Gated};
 
 /// Appends a body to one file, and then one to another. At each moment a crash leaves none of the two bodies, the first,
 /// or both.
