@@ -16,3 +16,5 @@ mod gates;
 mod pairs;
 #[cfg(test)]
 mod silent;
+#[cfg(test)]
+mod slabs;
