@@ -13,6 +13,8 @@ mod disks;
 #[cfg(test)]
 mod gates;
 #[cfg(test)]
+mod journals;
+#[cfg(test)]
 mod keys;
 #[cfg(test)]
 mod pairs;
