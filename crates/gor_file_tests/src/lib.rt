@@ -17,6 +17,8 @@ mod journals;
 #[cfg(test)]
 mod keys;
 #[cfg(test)]
+mod logs;
+#[cfg(test)]
 mod pairs;
 #[cfg(test)]
 mod silent;
