@@ -19,6 +19,8 @@ mod keys;
 #[cfg(test)]
 mod logs;
 #[cfg(test)]
+mod marks;
+#[cfg(test)]
 mod pairs;
 #[cfg(test)]
 mod silent;

@@ -1,14 +1,24 @@
-ghost use Rattle.std.specs.Prelude.{◌<◌};
+//! Marks: each kind is written and read, and each fault has its place.
+ghost use Rattle.gor_marks.specs.Spelling.{InLimits};
 
-use super::*;
+use gor_marks::{Mark, MarkFault, read_mark, write_mark};
 use gor_model::Wrong;
-use std::test::*;
+use std::alloc::{AllocError, Global};
+use std::test::Fail;
 
 const HOME: [u8; 10] = [1, 1, 0, 0, 0, 1, 0, 0, 0, 0];
 
 const SEALED: [u8; 22] = [
     1, 2, 0, 9, 26, 42, 0, 0, 1, 3, 127, 255, 255, 255, 255, 255, 255, 255, 0, 0, 1, 2,
 ];
+
+fn is_written(alloc: Global, mark: &Mark, want: &[u8]) -> Result<bool, AllocError>
+    requires { InLimits mark.now }
+{
+    let mut out = Vec::new(alloc);
+    write_mark(mark, &mut out)?;
+    Ok(out.as_slice() == want)
+}
 
 #[test]
 fn marks_go_both_ways(rt: HostRuntime) -> Result<(), Fail> {
@@ -22,22 +32,27 @@ fn marks_go_both_ways(rt: HostRuntime) -> Result<(), Fail> {
         upto: 9_223_372_036_854_775_807,
         first_log: 258,
     };
-    let mut out = Vec::new(rt.alloc());
-    write_mark(&home, &mut out)?;
-    assert_eq!(rt; out.as_slice(), HOME.as_slice());
+    assert!(rt; is_written(rt.alloc(), &home, &HOME)?);
     assert!(rt; read_mark(&HOME, true) == Ok(home));
-    let mut out = Vec::new(rt.alloc());
-    write_mark(&sealed, &mut out)?;
-    assert_eq!(rt; out.as_slice(), SEALED.as_slice());
+    assert!(rt; is_written(rt.alloc(), &sealed, &SEALED)?);
     assert!(rt; read_mark(&SEALED, false) == Ok(sealed));
     Ok(())
 }
 
-fn changed(mut bytes: [u8; 22], at: usize, byte: u8) -> [u8; 22]
-    requires { at < 22 }
-{
-    bytes[at] = byte;
-    bytes
+fn is_refused(body: &[u8], first: bool, at: u64, kind: Wrong) -> bool {
+    read_mark(body, first) == Err(MarkFault::Wrong { at, kind })
+}
+
+/// Whether a sealed mark with another byte at a place is refused so.
+fn is_refused_with(place: usize, byte: u8, at: u64, kind: Wrong) -> bool {
+    let mut body = SEALED;
+    match body.get_mut(place) {
+        Some(found) => {
+            *found = byte;
+            is_refused(&body, false, at, kind)
+        }
+        None => false,
+    }
 }
 
 #[test]
@@ -50,14 +65,8 @@ fn sealed_faults(rt: HostRuntime) {
         (10, 128, 10, Wrong::Value),
         (21, 4, 18, Wrong::Value),
     ];
-    for (at, byte, place, kind) in rows {
-        if at < 22 {
-            let found = read_mark(&changed(SEALED, at, byte), false);
-            assert!(rt;
-                found == Err(MarkFault::Wrong { at: place, kind }),
-                "at {at}"
-            );
-        }
+    for (place, byte, at, kind) in rows {
+        assert!(rt; is_refused_with(place, byte, at, kind), "at {place}");
     }
 }
 
@@ -74,10 +83,7 @@ fn home_faults(rt: HostRuntime) {
         (&[1, 1, 0, 0, 0, 16, 0, 0, 0, 15, 0], 10, Wrong::Extra),
     ];
     for (body, at, kind) in rows {
-        assert!(rt;
-            read_mark(body, true) == Err(MarkFault::Wrong { at, kind }),
-            "at {at}"
-        );
+        assert!(rt; is_refused(body, true, at, kind), "at {at}");
     }
 }
 
@@ -94,9 +100,6 @@ fn sealed_marks_have_one_length(rt: HostRuntime) {
         (&long, 22, Wrong::Extra),
     ];
     for (body, at, kind) in rows {
-        assert!(rt;
-            read_mark(body, false) == Err(MarkFault::Wrong { at, kind }),
-            "at {at}"
-        );
+        assert!(rt; is_refused(body, false, at, kind), "at {at}");
     }
 }
