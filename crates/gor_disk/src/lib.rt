@@ -18,12 +18,8 @@ mod editing;
 mod files;
 mod images;
 mod memory;
-#[cfg(test)]
-mod silent;
 mod stamping;
 mod tears;
-#[cfg(test)]
-mod tests;
 
 pub use calls::{DiskCall, DiskKind};
 pub use disk::{DeviceFault, Disk, DiskFailed, FileId};

@@ -16,12 +16,8 @@ mod appending;
 mod bodies;
 mod frames;
 mod gated;
-#[cfg(test)]
-mod pairs;
 mod parsing;
 mod reading;
-#[cfg(test)]
-mod tests;
 
 pub use bodies::{Body, GateFault};
 pub use frames::Frame;

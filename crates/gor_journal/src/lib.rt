@@ -18,6 +18,3 @@ mod writing;
 pub use buffers::Buffers;
 pub use entry::Entry;
 pub use journal::Journal;
-
-#[cfg(test)]
-mod tests;

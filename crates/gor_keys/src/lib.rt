@@ -17,6 +17,3 @@ pub use fault::KeyFault;
 pub use reading::read_keys;
 pub use record::{KeyBody, KeyRecord};
 pub use writing::write_keys;
-
-#[cfg(test)]
-mod tests;

@@ -18,6 +18,3 @@ pub use fault::LogFault;
 pub use reading::read_log;
 pub use record::{LogBatch, LogRecord};
 pub use writing::write_log;
-
-#[cfg(test)]
-mod tests;

@@ -15,6 +15,3 @@ mod writing;
 pub use mark::{Mark, MarkFault};
 pub use reading::read_mark;
 pub use writing::write_mark;
-
-#[cfg(test)]
-mod tests;

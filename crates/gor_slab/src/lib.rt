@@ -19,6 +19,3 @@ pub use fault::SlabFault;
 pub use reading::{block_at, read_index};
 pub use row::{SlabIndex, SlabRow};
 pub use writing::SlabWriter;
-
-#[cfg(test)]
-mod tests;

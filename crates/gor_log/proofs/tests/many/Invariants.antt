@@ -1,6 +1,0 @@
-use Rattle.std.specs.List.{AllByRecursion}
-use Rattle.gor_log.specs.Spelling.{IsRecord}
-use Rattle.gor_log.proofs.tests.many.Given as goal
-
-abbrev pub invariant-loop-index : goal.invariant-loop-index
-invariant-loop-index l = AllByRecursion IsRecord l.records.items
