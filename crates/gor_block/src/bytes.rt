@@ -2,14 +2,13 @@
 ghost use Rattle.std.specs.Prelude.{◌≡◌, ℕ, ◌+◌, ◌-◌, ◌*◌, ◌^◌, ◌<◌, ◌≤◌, ◌++◌, [], ◌∷◌, length, take, drop, replicate, false, OnOk, IsOk, IfOk, IfErr};
 ghost use Rattle.std.specs.Int.{w32, to_be_bytes};
 ghost use Rattle.gor_model.specs.Fields.{number_in};
-ghost use Rattle.gor_model.specs.Windows.{window_length};
 ghost use Rattle.gor_bits.specs.BitString.{BitString};
 ghost use Rattle.gor_bits.specs.Spelled.{bits_of};
 ghost use Rattle.gor_block.specs.Faults.{IsBlockFault, IsHeaded, IsNoPadding, IsPadded, IsPadding};
 
 use crate::fault::BlockFault;
-use byteorder::{BigEndian, ByteOrder};
 use gor_bits::Bits;
+use gor_fields::{push_all, put_u32};
 use gor_model::{Unit, is_window, u32_in};
 use std::alloc::{AllocError, Global};
 
@@ -20,30 +19,15 @@ pub struct Header {
     pub count: u32,
 }
 
-fn put_u32(number: u32, out: &mut Vec<u8>) -> Result<(), AllocError>
-    ensures { OnOk result (out.new.items ≡ out.old.items ++ to_be_bytes w32 number) }
-{
-    let mut bytes = [0; 4];
-    BigEndian::write_u32(&mut bytes, number);
-    out.extend_from_slice(&bytes)
-}
-
 /// The bytes of a window, a count and the bytes of some bits, in memory taken at once.
 pub fn bytes_of(alloc: Global, header: Header, packed: &[u8]) -> Result<Vec<u8>, AllocError>
     ensures { IfOk result (λ bytes. bytes.items ≡ to_be_bytes w32 header.window ++ (to_be_bytes w32 header.count ++ packed.now)) }
 {
     let mut out = Vec::with_capacity(alloc, packed.len().saturating_add(8))?;
-    put_u32(header.window, &mut out)?;
-    put_u32(header.count, &mut out)?;
-    out.extend_from_slice(packed)?;
+    put_u32(header.window, &mut out);
+    put_u32(header.count, &mut out);
+    push_all(packed, &mut out);
     Ok(out)
-}
-
-/// The most points that a block of this unit has.
-fn most_of(unit: Unit) -> u64
-    ensures { result ≡ window_length unit }
-{
-    7200 * unit.per_second()
 }
 
 /// The window and the count in front of some bytes, in their limits.
@@ -62,7 +46,7 @@ pub fn header_in(unit: Unit, bytes: &[u8]) -> Result<Header, BlockFault>
         return Err(BlockFault::Window { window });
     }
     let count = u32_in(bytes, 4);
-    if count == 0 || count as u64 > most_of(unit) {
+    if count == 0 || u64::from(count) > unit.window_length() {
         return Err(BlockFault::Count { count });
     }
     Ok(Header { window, count })

@@ -47,7 +47,7 @@ pub struct Step {
 fn start_of(unit: Unit, window: u32) -> u64
     ensures { result ≡ (first_mark unit window).times.last }
 {
-    window as u64 * (7200 * unit.per_second())
+    window as u64 * unit.window_length()
 }
 
 impl Running {

@@ -8,8 +8,8 @@ ghost use Rattle.gor_cell.specs.Packed.{points_in, standing, last_time};
 ghost use Rattle.gor_cell.specs.Steps.{IsOpen};
 ghost use Rattle.gor_cell.specs.Blocks.{bare, chosen, is_chosen, AddsCopies, has_point, AreLater, MayCome, Trimmed, lacks_points, with_last, roomy, lies_in, leading, IsLeading, with_block, with_blocks};
 
-use crate::windows::window_of;
 use gor_block::Block;
+use gor_model::windows::window_of;
 use gor_model::{Point, Unit};
 use gor_ring::Ring;
 use std::alloc::{AllocError, Global};

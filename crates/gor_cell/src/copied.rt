@@ -3,9 +3,9 @@ ghost use Rattle.gor_model.specs.Windows.{kept};
 ghost use Rattle.gor_model.specs.Answers.{in_range};
 ghost use Rattle.gor_cell.specs.Steps.{copied_points};
 
-use crate::windows::day;
 use gor_block::Block;
 use gor_model::Points;
+use gor_model::windows::day;
 use std::alloc::AllocError;
 
 /// Blocks that were copied for a read, with the floor of that moment. They are decoded by `points`, once the series' lock is

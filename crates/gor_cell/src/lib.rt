@@ -9,7 +9,6 @@
 //! - `blocks`: what is done to a list of blocks.
 //! - `copied`: [`Copied`], blocks that were copied for a read, and [`SealedBlocks`].
 //! - `cell_put`: [`CellPut`], what a put is answered.
-//! - `windows`: windows in the store's unit.
 //!
 //! The definitions that clauses cite stand in `specs/`: `Packed` says what is so of every live cell, `Stands` when a cell
 //! stands for its series' share, and `Steps` what each call is by that share.
@@ -20,7 +19,6 @@ mod cell;
 mod cell_put;
 mod copied;
 mod live;
-mod windows;
 
 pub use cell::Cell;
 pub use cell_put::CellPut;

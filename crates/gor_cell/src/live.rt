@@ -10,9 +10,9 @@ use crate::blocks::{
 };
 use crate::cell_put::CellPut;
 use crate::copied::{Copied, SealedBlocks};
-use crate::windows::{end_of, window_of};
 use gor_block::Block;
 use gor_model::Point;
+use gor_model::windows::{end_of, window_of};
 use gor_name::Name;
 use gor_ring::Ring;
 use std::alloc::{AllocError, Global};

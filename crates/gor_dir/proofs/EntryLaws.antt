@@ -13,7 +13,7 @@ use Rattle.indexmap.specs.IndexMap.{swap_remove_entry}
 use Rattle.indexmap.proofs.MapLemmas.{Found, Found-position, Missing-position, swap_remove_entry-found}
 use Rattle.gor_model.specs.Names.{key_of}
 use Rattle.gor_model.specs.Shares.{Entry}
-use Rattle.gor_dir.specs.declared.keyed_name.KeyedName.{KeyedName}
+use Rattle.gor_name.specs.declared.keyed_name.KeyedName.{KeyedName}
 use Rattle.gor_dir.specs.declared.rows.Place.{Place}
 use Rattle.gor_dir.specs.declared.row.DirRow.{DirRow}
 use Rattle.gor_dir.specs.Listings.{keyed, row_under, row_shown}

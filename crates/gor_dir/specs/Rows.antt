@@ -4,7 +4,7 @@ use Rattle.std.specs.List.{IsDistinct}
 use Rattle.std.specs.List.Sorted.{IsPermutation}
 use Rattle.gor_model.specs.Names.{key_of}
 use Rattle.gor_model.specs.Shares.{Entry}
-use Rattle.gor_dir.specs.declared.keyed_name.KeyedName.{KeyedName}
+use Rattle.gor_name.specs.declared.keyed_name.KeyedName.{KeyedName}
 use Rattle.gor_dir.specs.declared.rows.Place.{Place}
 
 -- the rows in some order, and how many more there is room for

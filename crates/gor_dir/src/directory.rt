@@ -14,7 +14,7 @@ ghost use Rattle.gor_dir.specs.Restores.{AddsRow, bare_start, directory_restored
 use crate::pool::Pool;
 use crate::row::DirRow;
 use crate::rows::Rows;
-use gor_model::Unit;
+use gor_model::windows::end_of;
 use gor_name::Name;
 use gor_rule::Thing;
 use std::alloc::{AllocError, Global};
@@ -154,8 +154,7 @@ impl Directory {
         ensures start { (start : Start) → Stands self.old (directory_share start []) → Stands self.new (directory_share (record start { floor = max start.floor (window_end window) }) []) }
         ensures room { self.new.spare ≡ self.old.spare }
     {
-        let length = 7200 * Unit::of_the_store().per_second();
-        self.floor = self.floor.max((u64::from(window) + 1) * length);
+        self.floor = self.floor.max(end_of(window));
     }
 
     /// The series that are there, by rising slot.

@@ -8,11 +8,9 @@
 //! - `row`: a row of it, as it is handed out.
 //! - `rows`: the rows that are kept, by their keys.
 //! - `pool`: the free slots.
-//! - `keyed_name`: names as the keys of the map.
 #![tactic(auto)]
 
 mod directory;
-mod keyed_name;
 mod pool;
 mod row;
 mod rows;

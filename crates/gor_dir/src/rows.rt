@@ -6,9 +6,8 @@ ghost use Rattle.gor_model.specs.Names.{key_of};
 ghost use Rattle.gor_dir.specs.Listings.{keyed, row_under, row_shown};
 ghost use Rattle.gor_dir.specs.Rows.{LosesRow};
 
-use crate::keyed_name::KeyedName;
 use crate::row::DirRow;
-use gor_name::Name;
+use gor_name::{KeyedName, Name};
 use indexmap::IndexMap;
 use std::alloc::{AllocError, Global};
 use std::marker::Model;

@@ -7,7 +7,7 @@ use Rattle.std.proofs.lemmas.Bool.Decides.{eqb_tells}
 use Rattle.gor_model.specs.Names.{key_of}
 use Rattle.gor_model.specs.declared.start.Row.{Row}
 use Rattle.gor_model.proofs.SlotLaws.{bytes_tell}
-use Rattle.gor_image.specs.declared.keyed_name.KeyedName.{KeyedName}
+use Rattle.gor_name.specs.declared.keyed_name.KeyedName.{KeyedName}
 use Rattle.gor_image.specs.declared.names.NamedRow.{NamedRow}
 use Rattle.gor_image.specs.Recovery.{Names, with_name, without_name, WrongSlot, SameName, named, freed}
 use Rattle.gor_image.specs.Naming.{seat, named_row, has_key, AreNames, AreRead}

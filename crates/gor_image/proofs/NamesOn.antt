@@ -5,7 +5,7 @@ use Rattle.std.specs.List.{AllByRecursion, cons_option, range_with_len}
 use Rattle.gor_model.specs.Names.{key_of}
 use Rattle.gor_model.specs.Windows.{slots_of_a_shard}
 use Rattle.gor_keys.specs.declared.record.KeyRecord.{KeyRecord}
-use Rattle.gor_image.specs.declared.keyed_name.KeyedName.{KeyedName}
+use Rattle.gor_name.specs.declared.keyed_name.KeyedName.{KeyedName}
 use Rattle.gor_image.specs.declared.names.NamedRow.{NamedRow}
 use Rattle.gor_image.specs.declared.ranges.Range.{Range}
 use Rattle.gor_image.specs.Records.{Placed, Files}

@@ -12,7 +12,7 @@ use Rattle.gor_image.specs.declared.fault.ImageFault.TheVariants as fault
 use Rattle.gor_image.specs.declared.recovered.OpenFault.TheVariants as refused
 use Rattle.gor_image.specs.declared.names.Clash.{Clash}
 use Rattle.gor_image.specs.declared.names.Clash.TheVariants as clash
-use Rattle.gor_image.specs.declared.keyed_name.KeyedName.{KeyedName}
+use Rattle.gor_name.specs.declared.keyed_name.KeyedName.{KeyedName}
 use Rattle.gor_image.specs.declared.names.NamedRow.{NamedRow}
 use Rattle.gor_image.specs.declared.ranges.Range.{Range}
 use Rattle.gor_image.specs.Records.{Placed, Files}

@@ -6,7 +6,7 @@ use Rattle.gor_model.specs.Names.{key_of}
 use Rattle.gor_model.specs.declared.start.Row.{Row}
 use Rattle.gor_keys.specs.declared.record.KeyRecord.{KeyRecord}
 use Rattle.gor_keys.specs.declared.record.KeyRecord.TheVariants.{Create, Delete, Live}
-use Rattle.gor_image.specs.declared.keyed_name.KeyedName.{KeyedName}
+use Rattle.gor_name.specs.declared.keyed_name.KeyedName.{KeyedName}
 use Rattle.gor_image.specs.declared.names.NamedRow.{NamedRow}
 use Rattle.gor_image.specs.declared.names.Clash.{Clash}
 use Rattle.gor_image.specs.declared.names.Clash.TheVariants as clash

@@ -6,9 +6,9 @@ ghost use Rattle.gor_image.specs.Parts.{record_shown, batch_shown, row_shown};
 ghost use Rattle.gor_model.specs.Windows.{window, window_end};
 
 use crate::records::{BlockPart, LogPart, PlacedLog};
-use crate::windows::{end_of, window_of};
 use gor_disk::FileId;
 use gor_log::LogRecord;
+use gor_model::windows::{end_of, window_of};
 use gor_model::{Point, Points};
 use std::alloc::{AllocError, Global};
 

@@ -26,7 +26,6 @@ mod fault;
 mod file_fault;
 mod files;
 mod gather;
-mod keyed_name;
 mod keys;
 pub mod laws;
 mod logs;
@@ -42,7 +41,6 @@ mod restore;
 mod rows;
 mod series;
 mod store;
-mod windows;
 
 pub use fault::{DamageKind, ImageFault};
 pub use recovered::{LogTop, OpenFault, Recovered, RecoveredRow};

@@ -10,8 +10,8 @@ ghost use Rattle.gor_image.specs.Parts.{record_shown, batch_shown};
 use crate::ranges::Range;
 use crate::records::{LogPart, PlacedLog};
 use crate::recovered::LogTop;
-use crate::windows::{end_of, window_of};
 use gor_log::LogRecord;
+use gor_model::windows::{end_of, window_of};
 use std::alloc::AllocError;
 
 /// What the logs that were read say beside the points of series.

@@ -4,10 +4,9 @@ ghost use Rattle.gor_image.specs.Naming.{AreNames, Answers, HasSlot, counts_in};
 ghost use Rattle.gor_image.specs.Ranges.{RangesRise};
 ghost use Rattle.gor_image.specs.declared.names.Clash.TheVariants as clash;
 
-use crate::keyed_name::KeyedName;
 use crate::ranges::{Range, is_covered};
 use gor_keys::KeyRecord;
-use gor_name::Name;
+use gor_name::{KeyedName, Name};
 use indexmap::IndexSet;
 use std::alloc::{AllocError, AllocFailed, Global};
 use std::mem;

@@ -10,8 +10,8 @@ use crate::fault::{DamageKind, ImageFault};
 use crate::names::NamedRow;
 use crate::recovered::{OpenFault, RecoveredRow};
 use crate::series::Series;
-use crate::windows::day;
 use gor_model::Points;
+use gor_model::windows::day;
 use std::alloc::{AllocError, Global};
 
 /// The points that are kept under a floor: those at most a day older than it.

@@ -7,10 +7,10 @@ ghost use Rattle.gor_image.specs.Parts.{record_shown, batch_shown, row_shown};
 
 use crate::gather::{Gathered, Spot, is_above};
 use crate::records::{BlockPart, LogPart, PlacedKey, PlacedLog};
-use crate::windows::window_of;
 use gor_disk::FileId;
 use gor_keys::KeyRecord;
 use gor_log::LogRecord;
+use gor_model::windows::window_of;
 use gor_model::{Point, Points};
 use indexmap::IndexSet;
 use std::alloc::{AllocError, Global};

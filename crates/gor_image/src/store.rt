@@ -14,9 +14,9 @@ use crate::logs_read::add_logs;
 use crate::records::PlacedKey;
 use crate::recovered::OpenFault;
 use crate::series::Series;
-use crate::windows::end_of;
 use gor_disk::Disk;
 use gor_marks::Mark;
+use gor_model::windows::end_of;
 use std::alloc::Global;
 
 /// What is gathered of the files that the marks name.

@@ -2,7 +2,7 @@ ghost use Rattle.std.specs.Prelude.{◌≡◌, ◌≤◌};
 ghost use Rattle.gor_model.specs.Windows.{window, greatest_time};
 ghost use Rattle.gor_journal.specs.Entries.{InLimits, entry_weight, entry_window, key_need, log_need, greater};
 
-use gor_model::Unit;
+use gor_model::windows;
 use gor_name::Name;
 
 /// A change, with what its records hold besides its number. Slots are at most 16,383, times at most 4,294,965,599 seconds,
@@ -67,7 +67,7 @@ fn window_at(time: u64) -> u32
     requires { time ≤ greatest_time }
     ensures { result ≡ window time }
 {
-    (time / (7200 * Unit::of_the_store().per_second())) as u32
+    windows::window_of(time) as u32
 }
 
 /// The greater of two windows, where there are any.

@@ -9,53 +9,21 @@ ghost use Rattle.gor_journal.specs.Entries.{InLimits, IsNamed, FitWords, key_byt
 
 use crate::entry::Entry;
 use byteorder::{BigEndian, ByteOrder};
+use gor_fields::{push_all, put_u32, put_u64};
 use gor_name::Name;
 
-// ---- bytes and numbers, the highest byte first
-
-fn put_all(out: &mut Vec<u8>, bytes: &[u8])
-    requires { vec_len out.old + length bytes.now ≤ vec_capacity out.old }
-    ensures items { out.new.items ≡ out.old.items ++ bytes.now }
-    ensures len { vec_len out.new ≡ vec_len out.old + length bytes.now }
-    ensures capacity { vec_capacity out.new ≡ vec_capacity out.old }
-{
-    for byte in bytes {
-        out.push_reserved(*byte);
-    }
-}
-
-fn put_u32(number: u32, out: &mut Vec<u8>)
-    requires { vec_len out.old + 4 ≤ vec_capacity out.old }
-    ensures items { out.new.items ≡ out.old.items ++ to_be_bytes w32 number }
-    ensures len { vec_len out.new ≡ vec_len out.old + 4 }
-    ensures capacity { vec_capacity out.new ≡ vec_capacity out.old }
-{
-    let mut bytes = [0; 4];
-    BigEndian::write_u32(&mut bytes, number);
-    put_all(out, &bytes);
-}
-
-fn put_u64(number: u64, out: &mut Vec<u8>)
-    requires { vec_len out.old + 8 ≤ vec_capacity out.old }
-    ensures items { out.new.items ≡ out.old.items ++ to_be_bytes w64 number }
-    ensures len { vec_len out.new ≡ vec_len out.old + 8 }
-    ensures capacity { vec_capacity out.new ≡ vec_capacity out.old }
-{
-    let mut bytes = [0; 8];
-    BigEndian::write_u64(&mut bytes, number);
-    put_all(out, &bytes);
-}
+// ---- names
 
 fn put_name(name: &Name, out: &mut Vec<u8>)
     requires { vec_len out.old + 1 + length name.now ≤ vec_capacity out.old }
     ensures items { out.new.items ≡ out.old.items ++ length name.now ∷ name.now }
     ensures len { vec_len out.new ≡ vec_len out.old + 1 + length name.now }
-    ensures capacity { vec_capacity out.new ≡ vec_capacity out.old }
+    ensures capacity { vec_capacity out.old ≤ vec_capacity out.new }
     ensures name { IsName name.now }
 {
     let text = name.text();
     out.push_reserved(text.len() as u8);
-    put_all(out, text.as_bytes());
+    push_all(text.as_bytes(), out);
 }
 
 // ---- key records
@@ -65,7 +33,7 @@ fn put_create(number: u64, slot: u32, floor: u64, name: &Name, out: &mut Vec<u8>
     requires floor { IsFloor Second floor }
     ensures items { out.new.items ≡ out.old.items ++ 1 ∷ series_fields Second (series number slot floor name.now) }
     ensures len { vec_len out.new ≡ vec_len out.old + 18 + length name.now }
-    ensures capacity { vec_capacity out.new ≡ vec_capacity out.old }
+    ensures capacity { vec_capacity out.old ≤ vec_capacity out.new }
     ensures name { IsName name.now }
 {
     out.push_reserved(1);
@@ -79,7 +47,7 @@ fn put_delete(number: u64, slot: u32, out: &mut Vec<u8>)
     requires { vec_len out.old + 13 ≤ vec_capacity out.old }
     ensures items { out.new.items ≡ out.old.items ++ 2 ∷ (to_be_bytes w64 number ++ to_be_bytes w32 slot) }
     ensures len { vec_len out.new ≡ vec_len out.old + 13 }
-    ensures capacity { vec_capacity out.new ≡ vec_capacity out.old }
+    ensures capacity { vec_capacity out.old ≤ vec_capacity out.new }
 {
     out.push_reserved(2);
     put_u64(number, out);
@@ -92,10 +60,10 @@ fn begin_keys(out: &mut Vec<u8>)
     requires room { vec_len out.old + 9 ≤ vec_capacity out.old }
     ensures items { out.new.items ≡ (replicate 8 0 ++ 1 ∷ []) ++ drop 9 out.old.items }
     ensures len { vec_len out.new ≤ vec_len out.old + 9 }
-    ensures capacity { vec_capacity out.new ≡ vec_capacity out.old }
+    ensures capacity { vec_capacity out.old ≤ vec_capacity out.new }
 {
     if out.is_empty() {
-        put_all(out, &[0, 0, 0, 0, 0, 0, 0, 0, 1]);
+        push_all(&[0, 0, 0, 0, 0, 0, 0, 0, 1], out);
     }
 }
 
@@ -133,7 +101,7 @@ fn put_point(uid: u64, time: u32, word: u64, out: &mut Vec<u8>)
     requires { vec_len out.old + 21 ≤ vec_capacity out.old }
     ensures items { out.new.items ≡ out.old.items ++ 1 ∷ (to_be_bytes w64 uid ++ (to_be_bytes w32 time ++ to_be_bytes w64 word)) }
     ensures len { vec_len out.new ≡ vec_len out.old + 21 }
-    ensures capacity { vec_capacity out.new ≡ vec_capacity out.old }
+    ensures capacity { vec_capacity out.old ≤ vec_capacity out.new }
 {
     out.push_reserved(1);
     put_u64(uid, out);
@@ -145,7 +113,7 @@ fn put_floor(window: u32, out: &mut Vec<u8>)
     requires { vec_len out.old + 5 ≤ vec_capacity out.old }
     ensures items { out.new.items ≡ out.old.items ++ 2 ∷ to_be_bytes w32 window }
     ensures len { vec_len out.new ≡ vec_len out.old + 5 }
-    ensures capacity { vec_capacity out.new ≡ vec_capacity out.old }
+    ensures capacity { vec_capacity out.old ≤ vec_capacity out.new }
 {
     out.push_reserved(2);
     put_u32(window, out);
@@ -155,7 +123,7 @@ fn put_seal(uid: u64, window: u32, out: &mut Vec<u8>)
     requires { vec_len out.old + 13 ≤ vec_capacity out.old }
     ensures items { out.new.items ≡ out.old.items ++ 3 ∷ (to_be_bytes w64 uid ++ to_be_bytes w32 window) }
     ensures len { vec_len out.new ≡ vec_len out.old + 13 }
-    ensures capacity { vec_capacity out.new ≡ vec_capacity out.old }
+    ensures capacity { vec_capacity out.old ≤ vec_capacity out.new }
 {
     out.push_reserved(3);
     put_u64(uid, out);
@@ -184,11 +152,11 @@ fn begin_log(changes: u64, out: &mut Vec<u8>)
     requires room { vec_len out.old + 25 ≤ vec_capacity out.old }
     ensures items { out.new.items ≡ (replicate 8 0 ++ 1 ∷ replicate 16 0) ++ drop 25 out.old.items }
     ensures len { vec_len out.new ≤ vec_len out.old + 25 }
-    ensures capacity { vec_capacity out.new ≡ vec_capacity out.old }
+    ensures capacity { vec_capacity out.old ≤ vec_capacity out.new }
 {
     if changes == 0 {
-        put_all(out, &[0, 0, 0, 0, 0, 0, 0, 0, 1]);
-        put_all(out, &[0; 16]);
+        push_all(&[0, 0, 0, 0, 0, 0, 0, 0, 1], out);
+        push_all(&[0; 16], out);
     }
 }
 

@@ -12,8 +12,6 @@ use Rattle.gor_keys.specs.declared.record.Series.{Series}
 use Rattle.gor_keys.specs.declared.record.KeyRecord.{KeyRecord}
 use Rattle.gor_keys.specs.declared.record.KeyRecord.TheVariants.{Create, Delete, Live}
 use Rattle.gor_keys.specs.declared.record.KeyBody.{KeyBody}
-use Rattle.gor_keys.specs.declared.fault.KeyFault.{KeyFault}
-use Rattle.gor_keys.specs.declared.fault.KeyFault.TheVariants as fault
 use Rattle.gor_keys.specs.Spelling.{last_slot, floor_len, series}
 
 -- ---- tests of limits
@@ -100,13 +98,3 @@ keys_in live (v ∷ rest) =
     if v == 1 then (records_in Second live rest >>= λ records. Ok (in_unit Second records))
     else if v == 2 then (records_in Milli live rest >>= λ records. Ok (in_unit Milli records))
     else wrong 0 Version
-
--- ---- what the code returns is what reading gives, unless memory is wanting
-
-abbrev pub Fails : {Y : Type 0} → KeyFault → Result Y Misread → Type 0
-Fails (fault.Wrong at kind) read = read ≡ wrong at kind
-Fails fault.NoMemory read = Unit {0}
-
-abbrev pub Gives : {X Y : Type 0} → (X → Y) → Result X KeyFault → Result Y Misread → Type 0
-Gives view (Ok x) read = read ≡ Ok (view x)
-Gives view (Err e) read = Fails e read

@@ -3,13 +3,14 @@ ghost use Rattle.gor_model.specs.Fields.{wrong};
 ghost use Rattle.gor_model.specs.declared.unit.Unit.{Unit as TimeUnit};
 ghost use Rattle.gor_name.specs.NameTest.{is_name};
 ghost use Rattle.gor_keys.specs.declared.record.KeyRecord.{KeyRecord};
-ghost use Rattle.gor_keys.specs.declared.fault.KeyFault.TheVariants as faults;
+ghost use Rattle.gor_fields.specs.Readings.{Gives};
 ghost use Rattle.gor_keys.specs.Spelling.{AreRecords, floor_len, spelling};
-ghost use Rattle.gor_keys.specs.Reading.{Gives, is_slot, is_floor, floor_in, series_in, delete_in, record_in, records_in, keys_in, shown, in_unit, created, living};
+ghost use Rattle.gor_keys.specs.Reading.{is_slot, is_floor, floor_in, series_in, delete_in, record_in, records_in, keys_in, shown, in_unit, created, living};
 
-use crate::fault::KeyFault;
+use crate::KeyFault;
 use crate::record::{KeyBody, KeyRecord, Series};
-use gor_model::{Unit, Wrong, is_number, u32_in, u64_in};
+use gor_fields::fault;
+use gor_model::{LAST_WINDOW, Unit, Wrong, is_number, u32_in, u64_in};
 use gor_name::{Name, NameFault};
 use std::alloc::{AllocError, Global};
 
@@ -34,10 +35,7 @@ fn is_slot(unit: Unit, slot: u32) -> bool
 fn is_floor(unit: Unit, floor: u64) -> bool
     ensures { result ≡ is_floor unit floor }
 {
-    match unit {
-        Unit::Second => floor % 7_200 == 0 && floor <= 4_294_965_600,
-        Unit::Milli => floor % 7_200_000 == 0 && floor <= 4_294_965_600_000,
-    }
+    floor % unit.window_length() == 0 && floor <= unit.end_of(LAST_WINDOW)
 }
 
 fn floor_of(unit: Unit, fields: &[u8]) -> u64
@@ -64,12 +62,6 @@ fn name_of(alloc: Global, bytes: &[u8]) -> Result<Option<Name>, AllocError>
         Err(NameFault::Long { .. }) => Ok(None),
         Err(NameFault::Control { .. }) => Ok(None),
     }
-}
-
-fn fault(at: u64, kind: Wrong) -> KeyFault
-    ensures { result ≡ faults.Wrong at kind }
-{
-    KeyFault::Wrong { at, kind }
 }
 
 #[tactic(auto, unfolding(crate::specs::Reading::series_in))]

@@ -1,33 +1,21 @@
-ghost use Rattle.std.specs.Prelude.{◌≡◌, ◌++◌, ◌∷◌, ◌^◌, ◌<◌, length, OnOk};
+//! The one spelling of a list of records.
+ghost use Rattle.std.specs.Prelude.{◌≡◌, ◌+◌, ◌++◌, ◌∷◌, ◌^◌, ◌<◌, ◌≤◌, length, vec_len, vec_capacity, OnOk, OnErr};
 ghost use Rattle.std.specs.Int.{w32, w64, to_be_bytes};
 ghost use Rattle.std.specs.List.{AllByRecursion};
 ghost use Rattle.gor_keys.specs.Spelling.{IsFloor, InLimits, floor_bytes, version, series, series_fields, record_spelling, spelling};
 
 use crate::record::KeyRecord;
-use byteorder::{BigEndian, ByteOrder};
+use gor_fields::{push_all, put_u32, put_u64};
 use gor_model::Unit;
 use gor_name::Name;
 use std::alloc::AllocError;
 
-fn put_u32(number: u32, out: &mut Vec<u8>) -> Result<(), AllocError>
-    ensures { OnOk result (out.new.items ≡ out.old.items ++ to_be_bytes w32 number) }
-{
-    let mut bytes = [0; 4];
-    BigEndian::write_u32(&mut bytes, number);
-    out.extend_from_slice(&bytes)
-}
-
-fn put_u64(number: u64, out: &mut Vec<u8>) -> Result<(), AllocError>
-    ensures { OnOk result (out.new.items ≡ out.old.items ++ to_be_bytes w64 number) }
-{
-    let mut bytes = [0; 8];
-    BigEndian::write_u64(&mut bytes, number);
-    out.extend_from_slice(&bytes)
-}
-
-fn put_floor(unit: Unit, floor: u64, out: &mut Vec<u8>) -> Result<(), AllocError>
-    requires { IsFloor unit floor }
-    ensures { OnOk result (out.new.items ≡ out.old.items ++ floor_bytes unit floor) }
+fn put_floor(unit: Unit, floor: u64, out: &mut Vec<u8>)
+    requires floor { IsFloor unit floor }
+    requires room { vec_len out.old + 8 ≤ vec_capacity out.old }
+    ensures items { out.new.items ≡ out.old.items ++ floor_bytes unit floor }
+    ensures len { vec_len out.new ≤ vec_len out.old + 8 }
+    ensures capacity { vec_capacity out.old ≤ vec_capacity out.new }
 {
     match unit {
         Unit::Second => put_u32(floor as u32, out),
@@ -35,16 +23,19 @@ fn put_floor(unit: Unit, floor: u64, out: &mut Vec<u8>) -> Result<(), AllocError
     }
 }
 
-fn put_name(name: &Name, out: &mut Vec<u8>) -> Result<(), AllocError>
-    ensures { OnOk result (out.new.items ≡ out.old.items ++ length name.now ∷ name.now) }
+fn put_name(name: &Name, out: &mut Vec<u8>)
+    requires { vec_len out.old + 1 + length name.now ≤ vec_capacity out.old }
+    ensures { out.new.items ≡ out.old.items ++ length name.now ∷ name.now }
 {
     let text = name.text();
-    out.push(text.len() as u8)?;
-    out.extend_from_slice(text.as_bytes())
+    out.push_reserved(text.len() as u8);
+    push_all(text.as_bytes(), out);
 }
 
+/// Adds the kind and the fields of a series; where memory is wanting, nothing.
 fn put_series(
     unit: Unit,
+    kind: u8,
     number: u64,
     slot: u32,
     floor: u64,
@@ -52,17 +43,34 @@ fn put_series(
     out: &mut Vec<u8>,
 ) -> Result<(), AllocError>
     requires { IsFloor unit floor }
-    ensures { OnOk result (out.new.items ≡ out.old.items ++ series_fields unit (series number slot floor name.now)) }
+    ensures ok { OnOk result (out.new.items ≡ out.old.items ++ kind ∷ series_fields unit (series number slot floor name.now)) }
+    ensures err { OnErr result (out.new.items ≡ out.old.items) }
 {
-    put_u64(number, out)?;
-    put_u32(slot, out)?;
-    put_floor(unit, floor, out)?;
-    put_name(name, out)
+    out.reserve(22 + name.text().len())?;
+    out.push_reserved(kind);
+    put_u64(number, out);
+    put_u32(slot, out);
+    put_floor(unit, floor, out);
+    put_name(name, out);
+    Ok(())
+}
+
+/// Adds a record of a deleted series; where memory is wanting, nothing.
+fn put_delete(number: u64, slot: u32, out: &mut Vec<u8>) -> Result<(), AllocError>
+    ensures ok { OnOk result (out.new.items ≡ out.old.items ++ 2 ∷ (to_be_bytes w64 number ++ to_be_bytes w32 slot)) }
+    ensures err { OnErr result (out.new.items ≡ out.old.items) }
+{
+    out.reserve(13)?;
+    out.push_reserved(2);
+    put_u64(number, out);
+    put_u32(slot, out);
+    Ok(())
 }
 
 fn put_record(unit: Unit, entry: &KeyRecord, out: &mut Vec<u8>) -> Result<(), AllocError>
     requires { InLimits unit entry.now }
-    ensures { OnOk result (out.new.items ≡ out.old.items ++ record_spelling unit entry.now) }
+    ensures ok { OnOk result (out.new.items ≡ out.old.items ++ record_spelling unit entry.now) }
+    ensures err { OnErr result (out.new.items ≡ out.old.items) }
 {
     match entry {
         KeyRecord::Create {
@@ -70,24 +78,14 @@ fn put_record(unit: Unit, entry: &KeyRecord, out: &mut Vec<u8>) -> Result<(), Al
             slot,
             floor,
             name,
-        } => {
-            out.push(1)?;
-            put_series(unit, *number, *slot, *floor, name, out)
-        }
-        KeyRecord::Delete { number, slot } => {
-            out.push(2)?;
-            put_u64(*number, out)?;
-            put_u32(*slot, out)
-        }
+        } => put_series(unit, 1, *number, *slot, *floor, name, out),
+        KeyRecord::Delete { number, slot } => put_delete(*number, *slot, out),
         KeyRecord::Live {
             uid,
             slot,
             floor,
             name,
-        } => {
-            out.push(3)?;
-            put_series(unit, *uid, *slot, *floor, name, out)
-        }
+        } => put_series(unit, 3, *uid, *slot, *floor, name, out),
     }
 }
 
@@ -100,15 +98,20 @@ fn version(unit: Unit) -> u8
     }
 }
 
-/// Writes the body of these records, with floors in this unit, at the end of `out`. Where memory is wanting, `out` may hold
-/// a part of the body behind what it held.
+/// Writes the body of these records, with floors in this unit, at the end of `out`, which stays as it was where memory is
+/// wanting.
 pub fn write_keys(unit: Unit, records: &[KeyRecord], out: &mut Vec<u8>) -> Result<(), AllocError>
     requires { AllByRecursion (InLimits unit) records.now }
-    ensures { OnOk result (out.new.items ≡ out.old.items ++ spelling unit records.now) }
+    ensures ok { OnOk result (out.new.items ≡ out.old.items ++ spelling unit records.now) }
+    ensures err { OnErr result (out.new.items ≡ out.old.items) }
 {
+    let len = out.len();
     out.push(version(unit))?;
     for entry in records {
-        put_record(unit, entry, out)?;
+        if put_record(unit, entry, out).is_err() {
+            out.truncate(len);
+            return Err(AllocError);
+        }
     }
     Ok(())
 }

@@ -9,8 +9,6 @@ use Rattle.gor_model.specs.Fields.{number_in, is_number, is_window, wrong, ◌>>
 use Rattle.gor_log.specs.declared.record.LogRecord.{LogRecord}
 use Rattle.gor_log.specs.declared.record.LogRecord.TheVariants.{Put, Floor, Seal}
 use Rattle.gor_log.specs.declared.record.LogBatch.{LogBatch}
-use Rattle.gor_log.specs.declared.fault.LogFault.{LogFault}
-use Rattle.gor_log.specs.declared.fault.LogFault.TheVariants as fault
 use Rattle.gor_log.specs.Spelling.{Batch}
 
 abbrev pub is_time : ℕ → Bool
@@ -71,13 +69,3 @@ log_in (version ∷ rest) = if version == 1 then header_in rest else wrong 0 Ver
 
 abbrev pub shown : LogBatch → Batch
 shown b = record { version = b.version; first = b.first; last = b.last; records = b.records.items }
-
--- ---- what the code returns is what reading gives, unless memory is wanting
-
-abbrev pub Fails : {Y : Type 0} → LogFault → Result Y Misread → Type 0
-Fails (fault.Wrong at kind) read = read ≡ wrong at kind
-Fails fault.NoMemory read = Unit {0}
-
-abbrev pub Gives : {X Y : Type 0} → (X → Y) → Result X LogFault → Result Y Misread → Type 0
-Gives view (Ok x) read = read ≡ Ok (view x)
-Gives view (Err e) read = Fails e read

@@ -4,17 +4,15 @@
 //! no record here, as a delete, has a number all the same.
 //!
 //! - `record`: batches and their records.
-//! - `fault`: why a body could not be read.
 //! - `writing`: the one spelling of a batch.
 //! - `reading`: the batch that a body spells, or the body's first fault.
 #![tactic(auto)]
 
-mod fault;
 mod reading;
 mod record;
 mod writing;
 
-pub use fault::LogFault;
+pub use gor_fields::FieldFault as LogFault;
 pub use reading::read_log;
 pub use record::{LogBatch, LogRecord};
 pub use writing::write_log;

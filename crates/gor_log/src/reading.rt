@@ -1,23 +1,18 @@
 ghost use Rattle.std.specs.Prelude.{◌≡◌, ◌+◌, ◌^◌, ◌<◌, ◌≤◌, length, drop, Ok, Err, IfOk};
-ghost use Rattle.gor_log.specs.declared.fault.LogFault.TheVariants as faults;
+ghost use Rattle.gor_fields.specs.Readings.{Gives};
 ghost use Rattle.gor_log.specs.Spelling.{Batch, IsBatch, spelling};
-ghost use Rattle.gor_log.specs.Reading.{Gives, is_time, is_range, put_in, floor_in, seal_in, record_in, records_in, header_in, log_in, shown};
+ghost use Rattle.gor_log.specs.Reading.{is_time, is_range, put_in, floor_in, seal_in, record_in, records_in, header_in, log_in, shown};
 
-use crate::fault::LogFault;
+use crate::LogFault;
 use crate::record::{LogBatch, LogRecord};
-use gor_model::{Wrong, is_number, is_window, u32_in, u64_in};
+use gor_fields::fault;
+use gor_model::{GREATEST_TIME, Wrong, is_number, is_window, u32_in, u64_in};
 use std::alloc::Global;
-
-fn fault(at: u64, kind: Wrong) -> LogFault
-    ensures { result ≡ faults.Wrong at kind }
-{
-    LogFault::Wrong { at, kind }
-}
 
 fn is_time(time: u64) -> bool
     ensures { result ≡ is_time time }
 {
-    time <= 4_294_965_599
+    time <= GREATEST_TIME
 }
 
 fn is_range(first: u64, last: u64) -> bool

@@ -6,8 +6,8 @@ use Rattle.gor_model.specs.declared.wrong.Misread.{Misread}
 use Rattle.gor_model.specs.Fields.{number_in, is_number, is_window, wrong}
 use Rattle.gor_marks.specs.declared.mark.Mark.{Mark}
 use Rattle.gor_marks.specs.declared.mark.Mark.TheVariants.{Home, Sealed}
-use Rattle.gor_marks.specs.declared.mark.MarkFault.{MarkFault}
-use Rattle.gor_marks.specs.declared.mark.MarkFault.TheVariants as fault
+use Rattle.gor_fields.specs.declared.field_fault.FieldFault.{FieldFault}
+use Rattle.gor_fields.specs.declared.field_fault.FieldFault.TheVariants as fault
 
 abbrev pub is_shards : ℕ → Bool
 is_shards n = nat_le 1 n && nat_le n 16
@@ -42,10 +42,10 @@ mark_in first [] = wrong 0 Version
 mark_in first (version ∷ rest) = if version == 1 then kind_in first rest else wrong 0 Version
 
 -- a fault of the reader is the fault that reading meets; a mark takes no memory
-abbrev pub Meets : MarkFault → Result Mark Misread → Type 0
+abbrev pub Meets : FieldFault → Result Mark Misread → Type 0
 Meets (fault.Wrong at kind) read = read ≡ wrong at kind
 Meets fault.NoMemory read = ⊥
 
-abbrev pub Gives : Result Mark MarkFault → Result Mark Misread → Type 0
+abbrev pub Gives : Result Mark FieldFault → Result Mark Misread → Type 0
 Gives (Ok mark) read = read ≡ Ok mark
 Gives (Err f) read = Meets f read

@@ -3,7 +3,7 @@
 //! A mark is the body of an entry of the file `marks`. The first mark says which shard the files are of, and each later one
 //! that a window is sealed and which key list and logs hold since then.
 //!
-//! - `mark`: the marks and the faults of a body.
+//! - `mark`: the marks.
 //! - `writing`: a mark's one spelling.
 //! - `reading`: the mark that a body spells, or the body's first fault.
 #![tactic(auto)]
@@ -12,6 +12,7 @@ mod mark;
 mod reading;
 mod writing;
 
-pub use mark::{Mark, MarkFault};
+pub use gor_fields::FieldFault as MarkFault;
+pub use mark::Mark;
 pub use reading::read_mark;
 pub use writing::write_mark;

@@ -1,9 +1,4 @@
-ghost use Rattle.std.specs.Prelude.{◌≡◌};
-ghost use Rattle.gor_marks.specs.declared.mark.MarkFault.TheVariants as fault;
-
-use gor_model::{Misread, Wrong};
-use thiserror::Error;
-
+//! The marks of a file `marks`.
 /// What the file `marks` says in one of its bodies.
 #[derive(Clone, Copy, Debug, PartialEq, Eq)]
 pub enum Mark {
@@ -21,26 +16,4 @@ pub enum Mark {
         upto: u64,
         first_log: u32,
     },
-}
-
-/// Why a body is no mark.
-#[derive(Clone, Copy, Debug, PartialEq, Eq, Error)]
-pub enum MarkFault {
-    /// The first fault, and its place in the body from 0.
-    #[error("a mark is wrong at {at}: {kind:?}")]
-    Wrong { at: u64, kind: Wrong },
-    /// Memory is wanting. Reading a mark takes none, so this never comes.
-    #[error("out of memory")]
-    NoMemory,
-}
-
-impl From<Misread> for MarkFault {
-    ghost from_gives = { λ misread given. given ≡ fault.Wrong misread.at misread.kind };
-
-    fn from(misread: Misread) -> MarkFault {
-        MarkFault::Wrong {
-            at: misread.at,
-            kind: misread.kind,
-        }
-    }
 }

@@ -4,7 +4,8 @@ ghost use Rattle.gor_marks.specs.Spelling.{InLimits, is_home, spelling};
 ghost use Rattle.gor_marks.specs.Reading.{Gives, is_shards, home_in, sealed_in, kind_in, mark_in};
 ghost use Rattle.gor_marks.specs.declared.mark.Mark.{Mark};
 
-use crate::mark::{Mark, MarkFault};
+use crate::MarkFault;
+use crate::mark::Mark;
 use gor_model::{Misread, Wrong, is_number, is_window, u32_in, u64_in};
 
 fn wrong(at: u64, kind: Wrong) -> Result<Mark, Misread>

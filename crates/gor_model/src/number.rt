@@ -2,6 +2,8 @@ ghost use Rattle.std.specs.Prelude.{◌≡◌, ◌+◌, ◌≤◌, length};
 ghost use Rattle.std.specs.Int.{w32, w64};
 ghost use Rattle.gor_model.specs.Fields.{number_in, is_number, is_window};
 
+use crate::windows::LAST_WINDOW;
+
 /// The number that four bytes from a place spell, the highest first.
 pub fn u32_in(bytes: &[u8], at: usize) -> u32
     requires { at + 4 ≤ length bytes.now }
@@ -33,5 +35,5 @@ pub fn is_number(number: u64) -> bool
 pub fn is_window(window: u32) -> bool
     ensures { result ≡ is_window window }
 {
-    window <= 596_522
+    window <= LAST_WINDOW
 }

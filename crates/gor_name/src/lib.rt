@@ -4,8 +4,10 @@
 //! spellings that differ in case alone are one series. Its shard is a hash of the key.
 #![tactic(auto)]
 
+mod keyed_name;
 mod name;
 
+pub use keyed_name::KeyedName;
 pub use name::{Name, NameFault};
 
 #[cfg(test)]

@@ -15,12 +15,13 @@ use Rattle.gor_model.specs.declared.wrong.Wrong.TheVariants.{Version, Short, Ext
 use Rattle.gor_model.specs.declared.wrong.Misread.{Misread}
 use Rattle.gor_model.specs.Fields.{IsBytes, number_in, wrong}
 use Rattle.gor_model.proofs.FieldLaws.{IsBytes-drop, bind_ok, guard_ok, guard_held, ok_is, number_parts, wide32, wide64}
-use Rattle.gor_slab.specs.declared.fault.SlabFault.{SlabFault}
+use Rattle.gor_fields.specs.declared.field_fault.FieldFault.{FieldFault}
+use Rattle.gor_fields.specs.Readings.{Gives}
 use Rattle.gor_slab.specs.declared.row.SlabRow.{SlabRow}
 use Rattle.gor_slab.specs.declared.row.Sizes.{Sizes}
 use Rattle.gor_slab.specs.declared.row.SlabIndex.{SlabIndex}
 use Rattle.gor_slab.specs.Spelling.{Entry, IsFile, blocks, greatest_part, slab_len, slabs_for, rest_of_slab, magic, version, row_bytes, rows_of, spelling}
-use Rattle.gor_slab.specs.Reading.{Gives, unit_in, sizes, room_in, rows_len, end_in, sizes_in, rows_in, used, padding_in, Index, index, shown, index_in, entry_of, entries_of, IsInside, Spells, ReadsAs}
+use Rattle.gor_slab.specs.Reading.{unit_in, sizes, room_in, rows_len, end_in, sizes_in, rows_in, used, padding_in, Index, index, shown, index_in, entry_of, entries_of, IsInside, Spells, ReadsAs}
 use Rattle.gor_slab.proofs.Zeros.{zeros_take, zeros_again}
 use Rattle.gor_slab.proofs.Rows.{rows_take, rows_again, entries_again, blocks_len, count_len}
 
@@ -275,10 +276,10 @@ one_value last u u2 es es2 bytes limits limits2 is is2 =
 
 -- ---- what the code returns
 
-pub is_found : (last : ℕ) (bytes : List ℕ) (r : Result SlabIndex SlabFault) → IsBytes bytes → Gives shown r (index_in last bytes) → IfOk r (λ i. Spells last (shown i) bytes)
+pub is_found : (last : ℕ) (bytes : List ℕ) (r : Result SlabIndex FieldFault) → IsBytes bytes → Gives shown r (index_in last bytes) → IfOk r (λ i. Spells last (shown i) bytes)
 is_found last bytes (Ok i) fits given = (index_takes last bytes (shown i) fits given).spells
 is_found last bytes (Err e) fits given = tt
 
-pub is_inside : (last : ℕ) (bytes : List ℕ) (r : Result SlabIndex SlabFault) → IsBytes bytes → Gives shown r (index_in last bytes) → IfOk r (λ i. All (IsInside bytes) i.rows.items)
+pub is_inside : (last : ℕ) (bytes : List ℕ) (r : Result SlabIndex FieldFault) → IsBytes bytes → Gives shown r (index_in last bytes) → IfOk r (λ i. All (IsInside bytes) i.rows.items)
 is_inside last bytes (Ok i) fits given = (index_takes last bytes (shown i) fits given).inside
 is_inside last bytes (Err e) fits given = tt

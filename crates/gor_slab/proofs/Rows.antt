@@ -17,10 +17,11 @@ use Rattle.gor_model.specs.declared.wrong.Misread.{Misread}
 use Rattle.gor_model.specs.Fields.{IsBytes, IsNumber, number_in, is_number, ◌>>=◌, with_front}
 use Rattle.gor_model.proofs.FieldLaws.{IsBytes-drop, bind_ok, guard_held, and_true, ok_is, number_held, number_tested, number_parts, number_below, wide32, wide64}
 use Rattle.gor_slab.specs.declared.row.SlabRow.{SlabRow}
-use Rattle.gor_slab.specs.declared.fault.SlabFault.{SlabFault}
-use Rattle.gor_slab.specs.declared.fault.SlabFault.TheVariants as fault
+use Rattle.gor_fields.specs.declared.field_fault.FieldFault.{FieldFault}
+use Rattle.gor_fields.specs.declared.field_fault.FieldFault.TheVariants as fault
+use Rattle.gor_fields.specs.Readings.{Fails}
 use Rattle.gor_slab.specs.Spelling.{Entry, IsEntryOf, blocks, greatest_part, row, row_bytes, rows_of}
-use Rattle.gor_slab.specs.Reading.{Fails, is_window_of, row_in, rows_in, used, block_of, entry_of, entries_of, IsInside}
+use Rattle.gor_slab.specs.Reading.{is_window_of, row_in, rows_in, used, block_of, entry_of, entries_of, IsInside}
 
 abbrev at_fault : ℕ → Wrong → Misread
 at_fault at kind = record { at = at; kind = kind }
@@ -49,7 +50,7 @@ rows_fail : (last room at place n : ℕ) (bytes : List ℕ) (d : Misread) (front
     → with_front front (rows_in last room at place (suc n) bytes) ≡ total → total ≡ Err d
 rows_fail last room at place n bytes d front total e so_far = sym so_far ∙ ap (with_front front) (stop last room at place n bytes d e)
 
-pub rows_ends : (f : SlabFault) (last room at place n : ℕ) (bytes : List ℕ) (front : List SlabRow) (total : Result (List SlabRow) Misread) → Fails f (row_in last room at place bytes)
+pub rows_ends : (f : FieldFault) (last room at place n : ℕ) (bytes : List ℕ) (front : List SlabRow) (total : Result (List SlabRow) Misread) → Fails f (row_in last room at place bytes)
     → with_front front (rows_in last room at place (suc n) bytes) ≡ total → Fails f total
 rows_ends (fault.Wrong p kind) last room at place n bytes front total e so_far = rows_fail last room at place n bytes (at_fault p kind) front total e so_far
 rows_ends fault.NoMemory last room at place n bytes front total e so_far = tt

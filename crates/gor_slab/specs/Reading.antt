@@ -10,8 +10,6 @@ use Rattle.gor_model.specs.Fields.{number_in, is_number, is_window, wrong, ◌>>
 use Rattle.gor_slab.specs.declared.row.SlabRow.{SlabRow}
 use Rattle.gor_slab.specs.declared.row.Sizes.{Sizes}
 use Rattle.gor_slab.specs.declared.row.SlabIndex.{SlabIndex}
-use Rattle.gor_slab.specs.declared.fault.SlabFault.{SlabFault}
-use Rattle.gor_slab.specs.declared.fault.SlabFault.TheVariants as fault
 use Rattle.gor_slab.specs.Spelling.{Entry, entry, greatest_part, slab_len, slabs_for, magic, row, rows_of, IsFile, spelling}
 
 -- ---- the header
@@ -126,13 +124,3 @@ pub record Spells (last : ℕ) (i : Index) (file : List ℕ) : Type 0 where
 pub record ReadsAs (last : ℕ) (unit : TimeUnit) (es : List Entry) (file : List ℕ) : Type 0 where
   pub read : index_in last file ≡ Ok (index unit (rows_of 0 es))
   pub entries : entries_of file (rows_of 0 es) ≡ es
-
--- ---- what the code returns is what reading gives, unless memory is wanting
-
-abbrev pub Fails : {Y : Type 0} → SlabFault → Result Y Misread → Type 0
-Fails (fault.Wrong at kind) read = read ≡ wrong at kind
-Fails fault.NoMemory read = Unit {0}
-
-abbrev pub Gives : {X Y : Type 0} → (X → Y) → Result X SlabFault → Result Y Misread → Type 0
-Gives view (Ok x) read = read ≡ Ok (view x)
-Gives view (Err e) read = Fails e read

@@ -5,17 +5,15 @@
 //! the blocks are. What the bytes of a block mean is not looked at here.
 //!
 //! - `row`: rows and the index that they make.
-//! - `fault`: why a block file could not be read.
 //! - `writing`: the one spelling of a list of blocks.
 //! - `reading`: the index that a file spells, or the file's first fault.
 #![tactic(auto)]
 
-mod fault;
 mod reading;
 mod row;
 mod writing;
 
-pub use fault::SlabFault;
+pub use gor_fields::FieldFault as SlabFault;
 pub use reading::{block_at, read_index};
 pub use row::{SlabIndex, SlabRow};
 pub use writing::SlabWriter;

@@ -1,10 +1,11 @@
 ghost use Rattle.std.specs.Prelude.{◌≡◌, ◌+◌, ◌-◌, ◌*◌, ◌^◌, ◌<◌, ◌≤◌, List, length, drop, Ok, IfOk, OnOk, All};
 ghost use Rattle.gor_model.specs.declared.unit.Unit.{Unit as TimeUnit};
-ghost use Rattle.gor_slab.specs.declared.fault.SlabFault.TheVariants as faults;
+ghost use Rattle.gor_fields.specs.declared.field_fault.FieldFault.TheVariants as faults;
+ghost use Rattle.gor_fields.specs.Readings.{Gives};
 ghost use Rattle.gor_slab.specs.Spelling.{Entry, IsFile, greatest_part, rows_of, spelling};
-ghost use Rattle.gor_slab.specs.Reading.{Gives, index, unit_in, sizes_in, is_window_of, row_in, rows_in, used, zeros_in, padding_in, index_in, shown, block_of, IsInside, Spells};
+ghost use Rattle.gor_slab.specs.Reading.{index, unit_in, sizes_in, is_window_of, row_in, rows_in, used, zeros_in, padding_in, index_in, shown, block_of, IsInside, Spells};
 
-use crate::fault::SlabFault;
+use crate::SlabFault;
 use crate::row::{
     GREATEST_ROWS, GREATEST_SLABS, HEADER_LEN, ROW_LEN, Rows, SLAB_LEN, Sizes, SlabIndex, SlabRow,
 };

@@ -10,6 +10,7 @@ ghost use Rattle.gor_slab.specs.Writing.{Wrote};
 
 use crate::row::{GREATEST_PART, GREATEST_ROWS, HEADER_LEN, ROW_LEN, SLAB_LEN, SlabRow};
 use byteorder::{BigEndian, ByteOrder};
+use gor_fields::push_all;
 use gor_model::Unit;
 use std::alloc::{AllocError, Global};
 use std::mem;
@@ -111,17 +112,6 @@ fn push_zeros(count: usize, out: &mut Vec<u8>)
     }
 }
 
-fn push_all(bytes: &[u8], out: &mut Vec<u8>)
-    requires { vec_len out.old + length bytes.now ≤ vec_capacity out.old }
-    ensures items { out.new.items ≡ out.old.items ++ bytes.now }
-    ensures len { vec_len out.new ≡ vec_len out.old + length bytes.now }
-    ensures capacity { vec_capacity out.new ≡ vec_capacity out.old }
-{
-    for byte in bytes {
-        out.push_reserved(*byte);
-    }
-}
-
 fn put_whose(bytes: &mut [u8], uid: u64, window: u32)
     requires { 12 ≤ length bytes.old }
     ensures { bytes.new ≡ (to_be_bytes w64 uid ++ to_be_bytes w32 window) ++ drop 12 bytes.old }
@@ -150,7 +140,7 @@ fn push_row(row: SlabRow, out: &mut Vec<u8>)
     requires { vec_len out.old + 24 ≤ vec_capacity out.old }
     ensures items { out.new.items ≡ out.old.items ++ row_bytes row }
     ensures len { vec_len out.new ≡ vec_len out.old + 24 }
-    ensures capacity { vec_capacity out.new ≡ vec_capacity out.old }
+    ensures capacity { vec_capacity out.old ≤ vec_capacity out.new }
 {
     let mut bytes = [0; 24];
     put_row(&mut bytes, row);

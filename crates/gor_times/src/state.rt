@@ -31,15 +31,6 @@ impl Model for TimeState {
     ghost invariant = { λ s. IsInside (record { unit = s.unit; window = s.window; begun = s.begun; last = s.last; difference = s.difference }) };
 }
 
-/// The times in a window: 7,200 seconds.
-fn length_of(unit: Unit) -> u64
-    ensures value { result ≡ window_length unit }
-    ensures some { 0 < result }
-    ensures few { result ≤ 7200000 }
-{
-    7200 * unit.per_second()
-}
-
 /// The bits of a first time.
 fn width_of(unit: Unit) -> u32
     ensures value { result ≡ first_width unit }
@@ -63,7 +54,7 @@ impl TimeState {
             unit,
             window,
             begun: false,
-            last: window as u64 * length_of(unit),
+            last: window as u64 * unit.window_length(),
             difference: 0,
         }
     }
@@ -160,7 +151,7 @@ impl TimeState {
         ensures value { result ≡ (self.now.window + 1) * window_length self.now.unit }
         ensures limit { result < 2 ^ 60 }
     {
-        (self.window as u64 + 1) * length_of(self.unit)
+        (self.window as u64 + 1) * self.unit.window_length()
     }
 
     /// The state behind one more time.

@@ -1,5 +1,6 @@
 use Rattle.std.proofs.Common.{ap, subst, ◌∙◌, arith}
-use Rattle.gor_keys.specs.Reading.{Gives, shown, keys_in}
+use Rattle.gor_fields.specs.Readings.{Gives}
+use Rattle.gor_keys.specs.Reading.{shown, keys_in}
 use Rattle.gor_keys.proofs.BodyLaws.{keys_again}
 use Rattle.gor_keys.proofs.Loop.{is_found}
 use Rattle.gor_keys.proofs.reading.read_keys.Goals as goal

@@ -1,5 +1,6 @@
 use Rattle.std.proofs.Common.{ap, subst, ◌∙◌, arith}
-use Rattle.gor_log.specs.Reading.{Gives, shown, log_in}
+use Rattle.gor_fields.specs.Readings.{Gives}
+use Rattle.gor_log.specs.Reading.{shown, log_in}
 use Rattle.gor_log.proofs.BodyLaws.{log_again}
 use Rattle.gor_log.proofs.Loop.{is_found}
 use Rattle.gor_log.proofs.reading.read_log.Goals as goal

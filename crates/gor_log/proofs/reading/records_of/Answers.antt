@@ -4,7 +4,7 @@ use Rattle.std.proofs.lemmas.List.{drop-drop, length-drop}
 use Rattle.gor_model.proofs.FieldLaws.{each_more, each_ends}
 use Rattle.gor_log.specs.Reading.{record_in, records_in}
 use Rattle.gor_log.proofs.BodyLaws.{record_moves}
-use Rattle.gor_log.proofs.Loop.{ends}
+use Rattle.gor_fields.proofs.Faults.{ends}
 use Rattle.gor_log.proofs.reading.records_of.Goals as goal
 
 pub returns-in_err-record : goal.returns-in_err-record

@@ -1,5 +1,6 @@
 use Rattle.std.proofs.Common.{ap, subst, ◌∙◌, arith}
-use Rattle.gor_slab.specs.Reading.{Gives, shown, index_in}
+use Rattle.gor_fields.specs.Readings.{Gives}
+use Rattle.gor_slab.specs.Reading.{shown, index_in}
 use Rattle.gor_slab.proofs.Files.{is_found, is_inside, file_again, one_value}
 use Rattle.gor_slab.proofs.reading.read_index.Goals as goal
 

@@ -1,3 +1,4 @@
+//! Names as the keys of maps.
 ghost use Rattle.std.specs.Str.{bytes_eq};
 ghost use Rattle.std.proofs.Common.{rules, ap};
 ghost use Rattle.std.specs.Hash as fed;
@@ -6,15 +7,15 @@ ghost use Rattle.std.specs.Cmp.Lexicographic.{bytes_decides, nat_list_eq_equiv};
 ghost use Rattle.std.specs.Cmp.Rules.{hashing};
 ghost use Rattle.gor_model.specs.Names.{key_of};
 
-use gor_name::Name;
+use crate::name::Name;
 use indexmap::Equivalent;
 use std::hash::{Hash, Hasher};
 
 /// A name as a key of a map: compared and hashed by the bytes of its key, and found by them, so that a look-up needs no
 /// name and a row keeps no second copy of its key.
 #[derive(Drop)]
-pub(crate) struct KeyedName {
-    pub(crate) name: Name,
+pub struct KeyedName {
+    pub name: Name,
 }
 
 impl PartialEq for KeyedName {
