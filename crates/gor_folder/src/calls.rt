@@ -1,6 +1,6 @@
 //! The calls of the system that std does not make again where a signal interrupts them. It does so where it opens, locks, reads,
 //! writes, cuts or syncs a file.
-use std::fs::{self, Metadata, OpenFile, ReadDir};
+use std::fs::{self, Metadata, OpenFile};
 use std::io::{self, ErrorKind};
 use std::path::PathBuf;
 use std::rt::Files;
@@ -47,9 +47,48 @@ pub fn real_path<R: Files + AllocGlobal>(rt: &R, path: &str) -> io::Result<PathB
     again!(fs::canonicalize(rt, path))
 }
 
-/// The names in a folder.
-pub fn list<R: Files + AllocGlobal + Clone + Drop>(rt: &R, path: &str) -> io::Result<ReadDir<R>> {
-    again!(fs::read_dir(rt, path))
+/// What names a folder has.
+#[derive(Clone, Copy)]
+pub struct Names {
+    /// A name of a shard's folder is among them.
+    pub has_shards: bool,
+    /// A name is among them that no store's folder has.
+    pub has_strange: bool,
+    /// A name is among them that no shard's folder has before its first mark.
+    pub has_later: bool,
+}
+
+/// Whether a folder has a name that no program gave it: where a file system begins there is one.
+fn is_found(name: &str) -> bool {
+    name == "lost+found"
+}
+
+/// Whether a name is one of those in a shard's folder before its first mark.
+fn is_first(name: &str) -> bool {
+    name == "marks" || name == "keys.0" || name == "log.0"
+}
+
+/// Reads the names in a folder once.
+fn read_names<R: Files + AllocGlobal + Clone + Drop>(rt: &R, path: &str) -> io::Result<Names> {
+    let mut names = Names {
+        has_shards: false,
+        has_strange: false,
+        has_later: false,
+    };
+    for entry in fs::read_dir(rt, path)? {
+        let entry = entry?;
+        let name = entry.file_name();
+        let (is_shard, is_found) = (name.starts_with("shard."), is_found(name));
+        names.has_shards = names.has_shards || is_shard;
+        names.has_strange = names.has_strange || !(is_shard || is_found);
+        names.has_later = names.has_later || !(is_first(name) || is_found);
+    }
+    Ok(names)
+}
+
+/// What names a folder has.
+pub fn list<R: Files + AllocGlobal + Clone + Drop>(rt: &R, path: &str) -> io::Result<Names> {
+    again!(read_names(rt, path))
 }
 
 /// Makes a folder.

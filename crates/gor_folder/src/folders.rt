@@ -5,7 +5,7 @@ use crate::held_file::HeldFile;
 use crate::identity::Identity;
 use crate::opened::Opened;
 use std::fs::{self, OpenFile};
-use std::io::{self, ErrorKind};
+use std::io::ErrorKind;
 use std::rt::Files;
 
 /// Which folder stands at a path, where one does. A link is no folder.
@@ -43,45 +43,16 @@ fn part_of(path: &str, end: usize) -> Option<&str> {
     path.get(..end).filter(|part| !part.is_empty())
 }
 
-/// Whether a folder's names are those of a store, or of one that is to begin: a shard is among them, or there are none.
-fn lists_store<R: Files + AllocGlobal + Clone + Drop>(rt: &R, path: &str) -> io::Result<bool> {
-    let mut others = false;
-    for entry in list(rt, path)? {
-        let entry = entry?;
-        let name = entry.file_name();
-        if name.starts_with("shard.") {
-            return Ok(true);
-        }
-        others = others || name != "lost+found";
-    }
-    Ok(!others)
-}
-
-/// Whether a name is one of those in a shard's folder before its first mark.
-fn is_of_new_shard(name: &str) -> bool {
-    name == "marks" || name == "keys.0" || name == "log.0" || name == "lost+found"
-}
-
-/// Whether a folder's names are those of a shard that has no mark yet.
-fn lists_new_shard<R: Files + AllocGlobal + Clone + Drop>(rt: &R, path: &str) -> io::Result<bool> {
-    for entry in list(rt, path)? {
-        let entry = entry?;
-        if !is_of_new_shard(entry.file_name()) {
-            return Ok(false);
-        }
-    }
-    Ok(true)
-}
-
 /// Refuses a shard's folder in which something else lies than a shard without a mark has.
 pub fn check_new_shard<R: Files + AllocGlobal + Clone + Drop>(
     rt: &R,
     folder: &str,
 ) -> Result<(), Reason> {
-    if asked(Operation::List, lists_new_shard(rt, folder))? {
-        return Ok(());
+    let names = asked(Operation::List, list(rt, folder))?;
+    if names.has_later {
+        return Err(Reason::NoShard);
     }
-    Err(Reason::NoShard)
+    Ok(())
 }
 
 /// The path of the folder that holds a shard's folder; none where that has one name alone.
@@ -95,13 +66,11 @@ fn check_store<R: Files + AllocGlobal + Clone + Drop>(rt: &R, folder: &str) -> R
         return Ok(());
     };
     let place = Place::Folder(store.len());
-    if at(place, asked(Operation::List, lists_store(rt, store)))? {
-        return Ok(());
+    let names = at(place, asked(Operation::List, list(rt, store)))?;
+    if names.has_strange && !names.has_shards {
+        return at(place, Err(Reason::NoStore));
     }
-    Err(Cause {
-        place,
-        reason: Reason::NoStore,
-    })
+    Ok(())
 }
 
 /// Whether the folders on the way to a folder are there in the end, and the folder too.

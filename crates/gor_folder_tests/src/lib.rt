@@ -8,6 +8,7 @@
 //! - `changes`: what another does to the folder while a disk is in use.
 //! - `counts`: what is asked of the system, and in which order.
 //! - `blocks`: more block files than are held open.
+//! - `runs`: whole runs and dumps.
 //! - `failures`: what is told of a call that fails, and a call that a signal interrupts.
 #![tactic(auto)]
 
@@ -23,6 +24,8 @@ mod counts;
 mod disks;
 #[cfg(test)]
 mod failures;
+#[cfg(test)]
+mod runs;
 #[cfg(test)]
 mod sharing;
 #[cfg(test)]
