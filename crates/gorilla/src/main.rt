@@ -4,9 +4,9 @@
 
 mod streams;
 
-use gor_folder::store_disks;
+use gor_folder::{FolderDisk, dump_disks, store_disks};
 use gor_outside::NoPause;
-use gor_run::{Status, dump, run};
+use gor_run::{Outcome, Status, dump, run};
 use std::env;
 use std::io::{self, BufReader};
 use std::process::ExitCode;
@@ -28,13 +28,45 @@ fn words_given(rt: &HostRuntime) -> Result<Vec<String>, Status> {
     Ok(words)
 }
 
+/// Closes all disks. The first shard whose disk could not be closed well, if one could not.
+fn close_all(disks: &mut [FolderDisk<HostRuntime>]) -> Option<u32> {
+    let mut unclosed = None;
+    for (shard, disk) in (0u32..16).zip(disks.iter_mut()) {
+        if disk.close().is_err() && unclosed.is_none() {
+            unclosed = Some(shard);
+        }
+    }
+    unclosed
+}
+
+/// The status once the disks are closed: one that could not be closed well has failed.
+fn after_closing(status: Status, unclosed: Option<u32>) -> Status {
+    match (status, unclosed) {
+        (Status::Ok | Status::WriteFault, Some(shard)) => Status::DeviceFault { shard },
+        _ => status,
+    }
+}
+
+/// Closes the disks that a call gave back, and tells why one failed where the status says so.
+fn ended(rt: &HostRuntime, outcome: Outcome<FolderDisk<HostRuntime>>) -> Status {
+    let Outcome { status, mut disks } = outcome;
+    let status = after_closing(status, close_all(&mut disks));
+    if let Status::DeviceFault { shard } = status
+        && let Some(disk) = disks.get(shard as usize)
+        && let Some(told) = disk.cause()
+    {
+        let _ = eprintln!(rt; "gorilla: {told}");
+    }
+    status
+}
+
 /// Dumps the store in the folder `store` to standard output.
 fn dump_store(rt: &HostRuntime, words: &[String]) -> Status {
-    let Ok(disks) = store_disks(rt, "store") else {
+    let Ok(disks) = dump_disks(rt, "store") else {
         return Status::NoMemory;
     };
     let mut sink = OutputStream::new(io::writer(rt));
-    dump(rt, words, &mut sink, disks).status
+    ended(rt, dump(rt, words, &mut sink, disks))
 }
 
 /// Whether the words are to be read as those of a dump.
@@ -51,7 +83,8 @@ fn main(rt: HostRuntime) -> ExitCode {
             Ok(disks) => {
                 let mut source = InputStream::new(rt.reader());
                 let mut sink = OutputStream::new(io::writer(&rt));
-                run(&rt, &words, &mut source, &mut sink, disks, &NoPause).status
+                let outcome = run(&rt, &words, &mut source, &mut sink, disks, &NoPause);
+                ended(&rt, outcome)
             }
             Err(_) => Status::NoMemory,
         },
