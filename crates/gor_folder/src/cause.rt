@@ -4,6 +4,7 @@ ghost use Rattle.std.specs.Prelude.{◌≡◌, Ok, IfOk};
 use crate::file_name::FileName;
 use gor_disk::FileId;
 use std::alloc::AllocError;
+use std::fmt::Write;
 use std::{fmt, io};
 
 /// What was asked of the system.
@@ -88,22 +89,43 @@ impl From<AllocError> for Reason {
     }
 }
 
-/// The system's text of an error as it stands within a line: it begins with a small letter.
+/// A text that is written here, up to its 256th byte.
+#[derive(Drop)]
+struct Line {
+    bytes: [u8; 256],
+    len: usize,
+}
+
+impl fmt::Write for Line {
+    fn write_str(&mut self, text: &str) -> fmt::Result {
+        for byte in text.as_bytes() {
+            if let Some(place) = self.bytes.get_mut(self.len) {
+                *place = *byte;
+                self.len += 1;
+            }
+        }
+        Ok(())
+    }
+}
+
+/// The system's text of an error as it stands within a line: it begins with a small letter, and has no number behind it.
 #[derive(Clone, Copy)]
 struct SystemText(io::Error);
 
 impl fmt::Display for SystemText {
     fn fmt<W: fmt::Write>(&self, f: &mut fmt::Formatter<W>) -> fmt::Result {
         let error = self.0;
-        let Some(code) = error.raw_os_error() else {
-            return write!(f, "{error}");
+        let mut line = Line {
+            bytes: [0; 256],
+            len: 0,
         };
-        let mut text = [0u8; 256];
-        let len = os::error_text(code, &mut text);
-        text[0] = text[0].to_ascii_lowercase();
-        match std::str::from_utf8(&text[..len]) {
-            Ok(text) => write!(f, "{text}"),
-            Err(_) => write!(f, "{error}"),
+        write!(line, "{error}")?;
+        line.bytes[0] = line.bytes[0].to_ascii_lowercase();
+        let written = line.bytes.get(..line.len).unwrap_or(&[]);
+        let text = std::str::from_utf8(written).unwrap_or("the system refused it");
+        match text.split_once(" (os error ") {
+            Some((front, _)) => write!(f, "{front}"),
+            None => write!(f, "{text}"),
         }
     }
 }

@@ -1,7 +1,6 @@
 //! What a disk asks of the files and folders that it holds open.
 use std::fs::{File, OpenFile};
-use std::io::{self, ErrorKind};
-use std::os::fd::IntoRawFd;
+use std::io;
 use std::os::unix::fs::FileExt;
 
 /// An open file or folder, read and written at places of its own, that can be locked, and closed with an answer.
@@ -24,15 +23,9 @@ impl HeldFile for File {
         Ok(())
     }
 
+    /// The system closes it as it is dropped, and its answer is not handed on. What was written to it was made stable before.
     fn close(self) -> io::Result<()> {
-        if libc::close(self.into_raw_fd()) == 0 {
-            return Ok(());
-        }
-        let error = io::Error::from_raw_os_error(os::errno());
-        // Where a signal interrupts it, the file is closed all the same, and its number may be another's by now.
-        if error.kind() == ErrorKind::Interrupted {
-            return Ok(());
-        }
-        Err(error)
+        drop(self);
+        Ok(())
     }
 }
