@@ -143,7 +143,7 @@ module _ (shards shard : ℕ) (limits : InLimits (Home shards shard)) (body : Li
 -- ---- and each of these keeps images without marks
 
 module _ (old one two : DiskView) (first : OnlyRead old one) (stays : (f : FileId) → IsImage (held_now one f) (one.seen f)) (leaves : Leaves is_first one two) where
-  two_go : GoesOn old two
+  pub two_go : GoesOn old two
   two_go = goes_then old one two (reads_goes old one first) (leaves_goes is_first one two leaves)
 
   pub two_keep : Keeps IsUnmarked old two
@@ -155,6 +155,9 @@ module _ (old one two : DiskView) (first : OnlyRead old one) (stays : (f : FileI
 
     pub three_keep : Keeps IsUnmarked old three
     three_keep = keeps_then IsUnmarked old two three two_go (reads_goes two three again) two_keep (reads_keep IsUnmarked two three again)
+
+    pub four_go : (four : DiskView) → Runs (IsSameStore 0 three.seen) three four → GoesOn old four
+    four_go four run = goes_then old three four three_go (runs_goes (IsSameStore 0 three.seen) three four run)
 
     module _ (four : DiskView) (stays_then : (f : FileId) → IsImage (held_now three f) (three.seen f)) (run : Runs (IsSameStore 0 three.seen) three four) where
       pub four_keep : Keeps IsUnmarked old four

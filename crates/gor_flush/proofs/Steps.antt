@@ -69,6 +69,12 @@ goes_then old mid new first second = record {
   past = λ t f low. second.past t f (omega (arith, first.later)) ∙ first.past t f low;
 }
 
+pub goes_still : (old : DiskView) → GoesOn old old
+goes_still old = record { later = omega arith; past = λ t f low. refl }
+
+pub touches_goes : (file : FileId) (P : List ℕ → Type 0) (old new : DiskView) → Touches file P old new → GoesOn old new
+touches_goes file P old new touches = record { later = touches.later; past = touches.past }
+
 pub leaves_goes : (which : FileId → Bool) (old new : DiskView) → Leaves which old new → GoesOn old new
 leaves_goes which old new leaves = record { later = leaves.later; past = leaves.past }
 

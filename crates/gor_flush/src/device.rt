@@ -96,6 +96,13 @@ impl<D: Disk> Device<D> {
         self.stopped
     }
 
+    /// How many changes the device has written since its opening. It takes no memory.
+    pub fn written(&self) -> u64
+        ensures { result ≡ self.now.written }
+    {
+        self.written
+    }
+
     /// The disk. It takes no memory.
     pub fn close(self) -> D
         ensures { result ≡ self.disk }

@@ -29,12 +29,3 @@ pub use dropping::drop_old;
 pub use open::NoDevice;
 pub use opening::Opening;
 pub use part::Part;
-
-#[cfg(test)]
-mod tests_append;
-#[cfg(test)]
-mod tests_crash;
-#[cfg(test)]
-mod tests_open;
-#[cfg(test)]
-mod tests_writing;

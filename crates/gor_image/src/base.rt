@@ -6,7 +6,7 @@ use gor_marks::Mark;
 use std::alloc::{AllocError, Global};
 
 /// What the last mark says of the other files.
-#[derive(Clone, Copy, Debug)]
+#[derive(Clone, Copy)]
 pub(crate) struct Based {
     /// The window of the last mark, if one is sealed.
     pub window: Option<u32>,

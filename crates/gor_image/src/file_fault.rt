@@ -13,7 +13,7 @@ use gor_model::Wrong;
 use std::alloc::{AllocError, AllocFailed};
 
 /// Why the bytes of a file were not read as records.
-#[derive(Clone, Copy, Debug, PartialEq, Eq)]
+#[derive(Clone, Copy)]
 pub(crate) enum FileFault {
     /// The first damage, and its place in bytes from the start of the file.
     Damaged { at: u64, kind: DamageKind },

@@ -13,7 +13,7 @@ use gor_model::{Point, Points};
 use std::alloc::{AllocError, Global};
 
 /// A place of a file, in bytes.
-#[derive(Clone, Copy, Debug, PartialEq, Eq)]
+#[derive(Clone, Copy)]
 pub(crate) struct Spot {
     pub file: FileId,
     pub at: u64,

@@ -45,14 +45,3 @@ mod store;
 pub use fault::{DamageKind, ImageFault};
 pub use recovered::{LogTop, OpenFault, Recovered, RecoveredRow};
 pub use recovering::recover;
-
-#[cfg(test)]
-mod laid;
-#[cfg(test)]
-mod tests_files;
-#[cfg(test)]
-mod tests_map;
-#[cfg(test)]
-mod tests_recover;
-#[cfg(test)]
-mod tests_sealed;

@@ -21,7 +21,7 @@ pub(crate) struct NamedRow {
 }
 
 /// Why a record of a key list has no place among those before it.
-#[derive(Clone, Copy, Debug, PartialEq, Eq)]
+#[derive(Clone, Copy)]
 pub(crate) enum Clash {
     /// A series begins in a slot that is taken, or one ends in a slot that is free.
     Slot,

@@ -3,7 +3,7 @@ ghost use Rattle.std.specs.List.{AllByRecursion, list_any};
 ghost use Rattle.gor_image.specs.Ranges.{RangesRise, has_number};
 
 /// The change numbers of a batch, both included.
-#[derive(Clone, Copy, Debug, PartialEq, Eq)]
+#[derive(Clone, Copy)]
 pub(crate) struct Range {
     pub first: u64,
     pub last: u64,

@@ -1,6 +1,13 @@
 use Rattle.std.proofs.Common.{inl, refl}
 use Rattle.gor_flush.proofs.Begins.{begins_on, begun_now}
+use Rattle.gor_flush.proofs.Steps.{goes_then, touches_goes}
 use Rattle.gor_flush.proofs.beginning.begin.Goals as goal
+
+pub returns-in_default-clause-goes : goal.returns-in_default-clause-goes
+returns-in_default-clause-goes g c = λ t. goes_then _ (g.D.Disk.view c.begin_files.new.disk) _ (c.begin_files.ensures.goes t) (touches_goes _ _ _ _ (c.append.ensures.any_moment t))
+
+pub returns-clause-goes : goal.returns-clause-goes
+returns-clause-goes g c = λ t. goes_then _ (g.D.Disk.view c.begin_files.new.disk) _ (c.begin_files.ensures.goes t) (touches_goes _ _ _ _ (c.append.ensures.any_moment t))
 
 pub returns-in_err-files-clause-kept : goal.returns-in_err-files-clause-kept
 returns-in_err-files-clause-kept g c = λ t all k image low high is. inl (c.begin_files.ensures.kept t all k image low high is)

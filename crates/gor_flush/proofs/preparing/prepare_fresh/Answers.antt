@@ -1,12 +1,22 @@
 use Rattle.std.proofs.Common.{refl}
 use Rattle.gor_flush.proofs.Prepares.{fresh_holds, fresh_holds_yet, fresh_opened}
+use Rattle.gor_flush.proofs.Steps.{goes_still}
 use Rattle.gor_flush.proofs.preparing.prepare_fresh.Goals as goal
+
+pub returns-in_default-clause-goes : goal.returns-in_default-clause-goes
+returns-in_default-clause-goes g c = λ t. goes_still _
 
 pub returns-in_default-clause-held : goal.returns-in_default-clause-held
 returns-in_default-clause-held g c = λ t. fresh_holds_yet c.args.shards c.args.shard _ (g.D.Disk.view c.args.disk.now) refl (c.requires.pending t) (c.requires.fresh t).marks
 
+pub returns-in_default-vec-clause-goes : goal.returns-in_default-vec-clause-goes
+returns-in_default-vec-clause-goes g c = λ t. goes_still _
+
 pub returns-in_default-vec-clause-held : goal.returns-in_default-vec-clause-held
 returns-in_default-vec-clause-held g c = λ t. fresh_holds_yet c.args.shards c.args.shard _ (g.D.Disk.view c.args.disk.now) refl (c.requires.pending t) (c.requires.fresh t).marks
+
+pub returns-in_default-copy_tops-clause-goes : goal.returns-in_default-copy_tops-clause-goes
+returns-in_default-copy_tops-clause-goes g c = λ t. goes_still _
 
 pub returns-in_default-copy_tops-clause-held : goal.returns-in_default-copy_tops-clause-held
 returns-in_default-copy_tops-clause-held g c = λ t. fresh_holds_yet c.args.shards c.args.shard _ (g.D.Disk.view c.args.disk.now) refl (c.requires.pending t) (c.requires.fresh t).marks

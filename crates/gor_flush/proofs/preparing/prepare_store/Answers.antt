@@ -1,9 +1,16 @@
 use Rattle.std.proofs.Common.{rules, refl}
 use Rattle.gor_flush.proofs.Prepares.{store_holds_on, store_holds_yet, store_opened, store_whole}
+use Rattle.gor_flush.proofs.Steps.{goes_still}
 use Rattle.gor_flush.proofs.preparing.prepare_store.Goals as goal
+
+pub returns-in_default-clause-goes : goal.returns-in_default-clause-goes
+returns-in_default-clause-goes g c = λ t. goes_still _
 
 pub returns-in_default-clause-held : goal.returns-in_default-clause-held
 returns-in_default-clause-held g c = λ t. store_holds_yet c.args.shards c.args.shard _ c.args.marks.now c.args.tops.now (g.D.Disk.view c.args.disk.now) c.requires.some refl (c.requires.pending t) (c.requires.store t)
+
+pub returns-in_default-copy_tops-clause-goes : goal.returns-in_default-copy_tops-clause-goes
+returns-in_default-copy_tops-clause-goes g c = λ t. goes_still _
 
 pub returns-in_default-copy_tops-clause-held : goal.returns-in_default-copy_tops-clause-held
 returns-in_default-copy_tops-clause-held g c = λ t. store_holds_yet c.args.shards c.args.shard _ c.args.marks.now c.args.tops.now (g.D.Disk.view c.args.disk.now) c.requires.some refl (c.requires.pending t) (c.requires.store t)

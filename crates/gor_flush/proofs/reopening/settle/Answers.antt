@@ -1,10 +1,18 @@
 use Rattle.gor_image.specs.Images.{current}
 use Rattle.gor_flush.specs.ReadFiles.{is_replaced}
 use Rattle.gor_flush.specs.Opening.{IsSameStore}
-use Rattle.gor_flush.proofs.Steps.{runs_goes, leaves_goes}
+use Rattle.gor_flush.proofs.Steps.{goes_then, runs_goes, leaves_goes}
 use Rattle.gor_flush.proofs.Results.{on_ok}
 use Rattle.gor_flush.proofs.Reopens.{ensuring_keeps, before_then, still_ensured, all_read, all_settled}
 use Rattle.gor_flush.proofs.reopening.settle.Goals as goal
+
+pub returns-in_default-clause-goes : goal.returns-in_default-clause-goes
+returns-in_default-clause-goes g c = λ t. runs_goes (IsSameStore (current c.args.marks.now) (g.D.Disk.view c.args.disk.now).seen) _ _ (c.ensure_all.ensures.run t (current c.args.marks.now) c.requires.files)
+
+pub returns-clause-goes : goal.returns-clause-goes
+returns-clause-goes g c = λ t.
+    goes_then _ (g.D.Disk.view c.ensure_all.new.disk) _ (runs_goes (IsSameStore (current c.args.marks.now) (g.D.Disk.view c.args.disk.now).seen) _ _ (c.ensure_all.ensures.run t (current c.args.marks.now) c.requires.files))
+    (leaves_goes (is_replaced c.args.marks.now) _ _ (c.drop_old.ensures.touched t))
 
 pub returns-in_default-clause-kept : goal.returns-in_default-clause-kept
 returns-in_default-clause-kept g c = λ t.
