@@ -21,6 +21,3 @@ mod running;
 
 pub use block::Block;
 pub use fault::BlockFault;
-
-#[cfg(test)]
-mod tests;

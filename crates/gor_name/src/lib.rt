@@ -9,6 +9,3 @@ mod name;
 
 pub use keyed_name::KeyedName;
 pub use name::{Name, NameFault};
-
-#[cfg(test)]
-mod tests;

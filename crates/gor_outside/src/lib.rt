@@ -12,6 +12,3 @@ pub mod source;
 pub use pause::{NoPause, Pause};
 pub use sink::{MemorySink, Sink};
 pub use source::{Failed, MemorySource, Source};
-
-#[cfg(test)]
-mod tests;

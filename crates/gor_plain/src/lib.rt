@@ -17,8 +17,6 @@ mod plain;
 mod puts;
 mod shares;
 mod start;
-#[cfg(test)]
-mod tests;
 
 pub use both::{give_both, take_both};
 pub use lanes::{Ended, Lane, run_and_close, run_in_place};

@@ -9,6 +9,3 @@
 mod ring;
 
 pub use ring::Ring;
-
-#[cfg(test)]
-mod tests;

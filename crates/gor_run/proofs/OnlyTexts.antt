@@ -30,12 +30,12 @@ earlier_goes (e ∷ later) h goes = by (is_stop e.reply) (earlier_goes later h) 
 only_text : (start : Start) (phases : List (List (List Line))) (text : List ℕ) (h : History) → IsStart start → IsToldBy start phases text h → is_stopped h ≡ false → IsOnlyText start phases text
 only_text start phases text h is told goes lane other only t stops =
     (one_text 1 (λ shard. start) lane phases other text (omega arith) (λ shard below. is) only t told.transcript stops (λ shard below. first shard below)).0 where
-  earlier : is_stopped (told.transcript.histories 0) ≡ false
-  earlier = earlier_goes told.later (told.transcript.histories 0) (ap is_stopped told.whole ∙ goes)
+      earlier : is_stopped (told.transcript.histories 0) ≡ false
+      earlier = earlier_goes told.later (told.transcript.histories 0) (ap is_stopped told.whole ∙ goes)
 
-  first : (shard : ℕ) → shard < 1 → is_stopped (told.transcript.histories shard) ≡ false
-  first zero below = earlier
-  first (suc shard) below = absurd (omega (arith, below))
+      first : (shard : ℕ) → shard < 1 → is_stopped (told.transcript.histories shard) ≡ false
+      first zero below = earlier
+      first (suc shard) below = absurd (omega (arith, below))
 
 module _ {D : Type 0} (tells : Bool) (view : D → DiskView) (faults : D → ℕ) where
   starts : (slots : ℕ) (seen : DiskView) (count : ℕ) (start : Start) → BeginsFrom 1 0 slots tells seen count start → IsStart start

@@ -74,7 +74,9 @@ fn pauses_once<R: Wait>(
 #[test]
 fn a_get_pauses_once(rt: HostRuntime) -> Result<(), Fail> {
     let TestShard {
-        shard, mut second, ..
+        shard,
+        mut second,
+        ..
     } = open(rt.alloc())?;
     let counted = Counted {
         calls: Cell::new(0),

@@ -205,9 +205,15 @@ pub(crate) fn run<R: Wait + Abort>(
     steps: &[Step],
 ) -> Result<(), Fail> {
     let TestShard {
-        shard, mut first, ..
+        shard,
+        mut first,
+        ..
     } = open(alloc)?;
     let wrong = first_wrong(rt, alloc, &shard, &mut first, steps)?;
-    assert_eq!(rt; wrong, None, "{case}: the place of the step that was answered otherwise");
+    assert_eq!(rt;
+        wrong,
+        None,
+        "{case}: the place of the step that was answered otherwise"
+    );
     Ok(())
 }

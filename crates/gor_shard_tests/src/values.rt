@@ -195,13 +195,21 @@ const OF_NO_ROWS: [Fact; 5] = [
 fn two_series_are_in_their_slots(rt: HostRuntime) -> Result<(), Fail> {
     let recovered = two_rows(rt.alloc())?;
     let values = values_on(rt.alloc(), SilentDisk::new(), recovered, 3)?;
-    assert_eq!(rt; first_wrong(&values, &OF_TWO_ROWS)?, None, "the place of a fact");
+    assert_eq!(rt;
+        first_wrong(&values, &OF_TWO_ROWS)?,
+        None,
+        "the place of a fact"
+    );
     Ok(())
 }
 
 #[test]
 fn nothing_recovered_is_an_empty_shard(rt: HostRuntime) -> Result<(), Fail> {
     let values = values_on(rt.alloc(), SilentDisk::new(), no_rows(rt.alloc()), 2)?;
-    assert_eq!(rt; first_wrong(&values, &OF_NO_ROWS)?, None, "the place of a fact");
+    assert_eq!(rt;
+        first_wrong(&values, &OF_NO_ROWS)?,
+        None,
+        "the place of a fact"
+    );
     Ok(())
 }

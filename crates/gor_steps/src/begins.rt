@@ -19,8 +19,8 @@ ghost use Rattle.gor_steps.specs.Points.{IsBack, MakesNone};
 ghost use Rattle.gor_steps.specs.Puts.{BeginsIn, IsRefused, IsSameHeld, IsQuiet, BeginsOrStops, PutMakes, PutsAbsent, KeepsAll, put_reply};
 ghost use Rattle.gor_steps.specs.Views.{HasDirectory, HasJournal, IsSound};
 
-use crate::kinds::Parts;
 use crate::held::{Held, give_all, take_more};
+use crate::kinds::Parts;
 use crate::parts::{give_directory, give_journal, take_journal};
 use crate::puts::{NewPoint, Put, PutAnswer, PutFault, PutReply, is_due};
 use gor_cell::Cell;

@@ -13,8 +13,8 @@ ghost use Rattle.gor_steps.specs.Held.{HasAll, EndsSeries};
 ghost use Rattle.gor_steps.specs.Views.{HasDirectory, HasNone, HasSeries, HasJournal, IsSound};
 ghost use Rattle.gor_steps.specs.Points.{IsReady, IsBack, Makes, MakesNone};
 
-use crate::kinds::Parts;
 use crate::held::{Held, give_all, take_more};
+use crate::kinds::Parts;
 use crate::parts::{give_directory, give_journal, take_directory, take_journal};
 use crate::reads::slot_in;
 use gor_dir::Directory;
@@ -110,7 +110,13 @@ fn refuse<V: Parts<K>, K>(
 }
 
 // Answers a delete of a stopped shard whose series is there, and gives all back.
-fn stop<V: Parts<K>, K>(shard: &Hall<V>, pass: &mut Pass, slot: u32, all: Held, name: &Name) -> DelReply
+fn stop<V: Parts<K>, K>(
+    shard: &Hall<V>,
+    pass: &mut Pass,
+    slot: u32,
+    all: Held,
+    name: &Name,
+) -> DelReply
     requires pass { IsPassOf shard.now pass.old × (0 < left_of_pass pass.old) }
     requires sound { IsSound (view pass.old) }
     requires slot { slot < (start_of shard.now).slots }
@@ -150,7 +156,13 @@ fn end_in(all: Held, slot: u32, name: &Name) -> Held
 }
 
 // Makes the event of a delete that ends a series, ends it, and gives all back.
-fn end<V: Parts<K>, K>(shard: &Hall<V>, pass: &mut Pass, slot: u32, all: Held, name: &Name) -> DelReply
+fn end<V: Parts<K>, K>(
+    shard: &Hall<V>,
+    pass: &mut Pass,
+    slot: u32,
+    all: Held,
+    name: &Name,
+) -> DelReply
     requires pass { IsPassOf shard.now pass.old × (0 < left_of_pass pass.old) }
     requires sound { IsSound (view pass.old) }
     requires slot { (slot < (start_of shard.now).slots) × ((start_of shard.now).slots ≤ slots_of_a_shard) }

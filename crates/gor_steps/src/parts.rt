@@ -46,7 +46,10 @@ pub(crate) fn take_directory<V: Parts<K>, K, R: Wait>(
 }
 
 /// Takes the directory where nobody holds it.
-pub(crate) fn try_take_directory<V: Parts<K>, K>(shard: &Hall<V>, pass: &mut Pass) -> Option<Directory>
+pub(crate) fn try_take_directory<V: Parts<K>, K>(
+    shard: &Hall<V>,
+    pass: &mut Pass,
+) -> Option<Directory>
     requires pass { IsPassOf shard.now pass.old × (held pass.old ≡ []) }
     ensures pass { StaysPass shard.now 0 pass.old pass.new }
     ensures some { IfSome result (λ directory. Takes (view pass.old) 1 (view pass.new) × (refused pass.new ≡ refused pass.old) × HasDirectory (view pass.new) directory) }
@@ -81,11 +84,17 @@ pub(crate) fn take_series<V: Parts<K>, K, R: Wait>(
     ensures took { Takes (view pass.old) (slot + 2) (view pass.new) }
     ensures stands { HasSeries (view pass.new) slot result }
 {
-    shard.take(rt, pass, series_object(shard, slot)).into_series()
+    shard
+        .take(rt, pass, series_object(shard, slot))
+        .into_series()
 }
 
 /// Takes the series of a slot where nobody holds it.
-pub(crate) fn try_take_series<V: Parts<K>, K>(shard: &Hall<V>, pass: &mut Pass, slot: u32) -> Option<Cell>
+pub(crate) fn try_take_series<V: Parts<K>, K>(
+    shard: &Hall<V>,
+    pass: &mut Pass,
+    slot: u32,
+) -> Option<Cell>
     requires pass { IsPassOf shard.now pass.old × AllBelow 2 (held pass.old) }
     requires slot { slot < (start_of shard.now).slots }
     ensures pass { StaysPass shard.now 0 pass.old pass.new }
@@ -110,7 +119,11 @@ pub(crate) fn give_series<V: Parts<K>, K>(shard: &Hall<V>, pass: &mut Pass, slot
 }
 
 /// Takes the journal.
-pub(crate) fn take_journal<V: Parts<K>, K, R: Wait>(rt: &R, shard: &Hall<V>, pass: &mut Pass) -> Journal
+pub(crate) fn take_journal<V: Parts<K>, K, R: Wait>(
+    rt: &R,
+    shard: &Hall<V>,
+    pass: &mut Pass,
+) -> Journal
     requires pass { IsPassOf shard.now pass.old × AllBelow ((start_of shard.now).slots + 2) (held pass.old) }
     ensures pass { StaysPass shard.now 0 pass.old pass.new }
     ensures took { Takes (view pass.old) ((start_of shard.now).slots + 2) (view pass.new) }

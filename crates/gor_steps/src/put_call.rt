@@ -14,9 +14,9 @@ ghost use Rattle.gor_steps.specs.Points.{IsReady, IsBack, Makes, MakesNone};
 ghost use Rattle.gor_steps.specs.Puts.{KeepsAll, BeginsOrStops, PutMakes, PutsAgain, PutRefused, put_reply};
 ghost use Rattle.gor_steps.specs.Views.{HasDirectory, IsSound};
 
-use crate::kinds::Parts;
 use crate::begins::put_absent;
 use crate::held::{Both, Held, take_more};
+use crate::kinds::Parts;
 use crate::parts::{give_directory, take_directory};
 use crate::puts::{NewPoint, PutFault, PutReply, put_at, put_there};
 use crate::reads::slot_in;

@@ -15,8 +15,8 @@ ghost use Rattle.gor_steps.specs.Points.{IsBack, MakesNone};
 ghost use Rattle.gor_steps.specs.Puts.{HasBoth, PutsIn, PutMakes, PutsIfThere, PutsAt};
 ghost use Rattle.gor_steps.specs.Views.{IsSound};
 
-use crate::kinds::Parts;
 use crate::held::{Both, give_both};
+use crate::kinds::Parts;
 use crate::parts::{give_series, take_journal, take_series};
 use gor_cell::CellPut;
 use gor_hall::{Hall, Pass};

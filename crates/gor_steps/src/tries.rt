@@ -11,8 +11,8 @@ ghost use Rattle.gor_steps.specs.Moves.{AddsMoves, ReadsApart};
 ghost use Rattle.gor_steps.specs.Points.{IsReady, IsBack, Makes, get_reply};
 ghost use Rattle.gor_steps.specs.Tries.{TriesLookUp, IsHeld, Fails, TryRefused};
 
-use crate::kinds::Parts;
 use crate::gets::{GetReply, reply};
+use crate::kinds::Parts;
 use crate::parts::{give_directory, series_object, try_take_directory, try_take_series};
 use crate::reads::{Found, Lookup, Read, Wanted, look_in, miss, read_in, read_kept, slot_in};
 use gor_hall::{Hall, Pass};
@@ -35,7 +35,11 @@ pub enum TryFault {
 }
 
 // Looks a key up under the directory's lock alone, where it is free.
-fn look_up<V: Parts<K>, K>(shard: &Hall<V>, pass: &mut Pass, wanted: &Wanted) -> Result<Lookup, TryFault>
+fn look_up<V: Parts<K>, K>(
+    shard: &Hall<V>,
+    pass: &mut Pass,
+    wanted: &Wanted,
+) -> Result<Lookup, TryFault>
     requires pass { IsPassOf shard.now pass.old × (held pass.old ≡ []) × (0 < left_of_pass pass.old) }
     ensures pass { IsBack shard.now pass.old pass.new }
     ensures found { IfOk result (TriesLookUp (start_of shard.now).slots pass.old wanted.now pass.new) }
@@ -103,7 +107,11 @@ fn read_again<V: Parts<K>, K>(
 }
 
 // Looks a key up, and reads its series; where it is not there any more, it looks up again.
-fn find<V: Parts<K>, K>(shard: &Hall<V>, pass: &mut Pass, wanted: &Wanted) -> Result<Found, TryFault>
+fn find<V: Parts<K>, K>(
+    shard: &Hall<V>,
+    pass: &mut Pass,
+    wanted: &Wanted,
+) -> Result<Found, TryFault>
     requires pass { IsPassOf shard.now pass.old × (held pass.old ≡ []) × (0 < left_of_pass pass.old) }
     ensures pass { IsBack shard.now pass.old pass.new }
     ensures found { IfOk result (Answers pass.old wanted.now pass.new) }

@@ -4,7 +4,6 @@ pub mod Places
 pub mod Slots
 pub mod Restoring
 pub mod InOrder
-pub mod TestStarts
 pub mod StoryLists
 pub mod StoryNumbers
 pub mod StoryLanes

@@ -39,5 +39,5 @@ images_open_again tells view faults shards shard slots old new start h session t
     map = p.holds.holds.map;
     state = p.holds.holds.state;
     opens = subst (λ n. (opens_to image shards shard n ≡ Ok p.holds.holds.map) ⊎ (opens_to image shards shard n ≡ Err (fault.Worn p.holds.holds.map.next)))
-      (slots_are shards shard slots tells (view old) (faults old) start session.begins) opened;
+        (slots_are shards shard slots tells (view old) (faults old) start session.begins) opened;
   }

@@ -1,7 +1,6 @@
 pub mod Series
 pub mod Directories
 pub mod Values
-pub mod TestRows
 pub mod Stories
 pub mod Works
 pub mod WorkedStory

@@ -40,6 +40,3 @@ pub use lanes::run_lane;
 pub use shards::{OpenShard, close_shard, open_shard};
 pub use store::{NotStored, Store};
 pub use values::values_of;
-
-#[cfg(test)]
-mod tests;

@@ -122,9 +122,9 @@ module _ (shards : ℕ) (starts : ℕ → Start) (H : ℕ → History) (legal : 
   acts_go (Made s n c r ∷ acts) below there =
       let own : nat_eq s s ≡ true = eq-eqb s s refl in
       (not_stop s n c r below.0 (rw own at (there s below.0)).0, acts_go acts below.1 (λ q under. by q (eqb_tells s q) (there q under))) where
-    by : (q : ℕ) → ((nat_eq s q ≡ true) × (s ≡ q)) ⊎ ((nat_eq s q ≡ false) × (s ≢ q)) → AllByRecursion (IsThere (H q)) (all_said q (Made s n c r ∷ acts)) → AllByRecursion (IsThere (H q)) (all_said q acts)
-    by q (inl same) all = (rw same.0 at all).1
-    by q (inr apart) all = rw apart.0 at all
+        by : (q : ℕ) → ((nat_eq s q ≡ true) × (s ≡ q)) ⊎ ((nat_eq s q ≡ false) × (s ≢ q)) → AllByRecursion (IsThere (H q)) (all_said q (Made s n c r ∷ acts)) → AllByRecursion (IsThere (H q)) (all_said q acts)
+        by q (inl same) all = (rw same.0 at all).1
+        by q (inr apart) all = rw apart.0 at all
   acts_go (Refused why ∷ acts) below there = (tt, acts_go acts below.1 there)
   acts_go (MergedPoints points ∷ acts) below there = (tt, acts_go acts below.1 there)
 

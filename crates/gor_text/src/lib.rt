@@ -24,6 +24,3 @@ pub use merged::MergedPoints;
 pub use reader::{TextFault, read_accepted, read_workload};
 pub use spelling::write_answer;
 pub use workload::{Item, Line, Names, Phase, Workload};
-
-#[cfg(test)]
-mod tests;
