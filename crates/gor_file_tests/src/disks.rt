@@ -38,13 +38,6 @@ fn make(disk: &mut MemoryDisk, step: Step) -> Result<(), DiskFailed> {
     }
 }
 
-fn make_all(disk: &mut MemoryDisk, steps: &[Step]) -> Result<(), DiskFailed> {
-    for step in steps {
-        make(disk, *step)?;
-    }
-    Ok(())
-}
-
 /// The bytes of a file; none where the disk fails.
 fn contents(
     alloc: Global,
@@ -73,15 +66,7 @@ fn holds(
     }
 }
 
-/// A disk that a crash at this moment may leave, if there was such a moment.
-fn image(disk: &MemoryDisk, moment: u64, choice: u64) -> Result<Option<MemoryDisk>, AllocError> {
-    if moment > disk.calls().len() as u64 {
-        return Ok(None);
-    }
-    Ok(Some(disk.image(moment, choice)?))
-}
-
-/// The file's bytes in an image.
+/// The file's bytes after a crash at this moment, if there was such a moment.
 fn left(
     alloc: Global,
     disk: &MemoryDisk,
@@ -89,10 +74,11 @@ fn left(
     choice: u64,
     file: FileId,
 ) -> Result<Option<Vec<u8>>, AllocError> {
-    match image(disk, moment, choice)? {
-        Some(mut image) => contents(alloc, &mut image, file),
-        None => Ok(None),
+    if moment > disk.calls().len() as u64 {
+        return Ok(None);
     }
+    let mut image = disk.image(moment, choice)?;
+    contents(alloc, &mut image, file)
 }
 
 /// A file, and what a crash at any of these moments may leave of it: from `least` bytes to as many as the pattern has,
@@ -185,7 +171,9 @@ fn check_row(
 #[test]
 fn images_are_those_of_the_model(rt: HostRuntime) -> Result<(), Fail> {
     let mut disk = MemoryDisk::new(rt.alloc());
-    assert!(rt; make_all(&mut disk, &STEPS).is_ok());
+    for step in STEPS {
+        assert!(rt; make(&mut disk, step).is_ok());
+    }
     assert_eq!(rt; disk.calls().len(), 12);
     let rows = [
         expected((0, 1), MARKS, (b"", b""), 0, b""),
@@ -275,16 +263,18 @@ fn are_listed(calls: &[DiskCall], last: DiskCall) -> bool {
     calls == want.as_slice()
 }
 
+/// Whether a crash after the six calls leaves these bytes of the log.
 fn log_left(
     alloc: Global,
     disk: &MemoryDisk,
     choice: u64,
     want: &[u8],
 ) -> Result<bool, AllocError> {
-    match left(alloc, disk, 6, choice, LOG)? {
-        Some(bytes) => Ok(bytes.as_slice() == want),
-        None => Ok(false),
+    if disk.calls().len() < 6 {
+        return Ok(false);
     }
+    let mut image = disk.image(6, choice)?;
+    holds(alloc, &mut image, LOG, want)
 }
 
 fn is_kept(alloc: Global, disk: &mut MemoryDisk, row: &Failed) -> Result<bool, AllocError> {

@@ -176,12 +176,35 @@ fn add<D: Disk>(
     }
 }
 
-/// Ensures the file of marks and appends a body to it; whether that was done.
-fn one<D: Disk>(alloc: Global, disk: &mut D, body: &[u8]) -> Result<bool, AllocError>
+fn add_each<D: Disk>(
+    alloc: Global,
+    disk: &mut D,
+    gated: &mut Gated,
+    first: &[u8],
+    second: Option<&[u8]>,
+) -> Result<bool, AllocError>
+    requires { IsTrue D.tells → IsEnsured gated.old (D.view disk.old) }
+{
+    if !add(alloc, disk, gated, first)? {
+        return Ok(false);
+    }
+    match second {
+        Some(body) => add(alloc, disk, gated, body),
+        None => Ok(true),
+    }
+}
+
+/// Ensures the file of marks and appends one body or two to it; whether that was done.
+fn append<D: Disk>(
+    alloc: Global,
+    disk: &mut D,
+    first: &[u8],
+    second: Option<&[u8]>,
+) -> Result<bool, AllocError>
     requires { IsTrue D.tells → IsSettled (D.view disk.old) MARKS }
 {
     match opened(alloc, disk, MARKS) {
-        Some(mut gated) => add(alloc, disk, &mut gated, body),
+        Some(mut gated) => add_each(alloc, disk, &mut gated, first, second),
         None => Ok(false),
     }
 }
@@ -217,7 +240,7 @@ fn holds(
 /// Whether the file is what one append of its body writes to an empty one.
 fn is_written(alloc: Global, body: &[u8], file: &[u8]) -> Result<bool, AllocError> {
     let mut disk = MemoryDisk::new(alloc);
-    Ok(one(alloc, &mut disk, body)? && holds(alloc, &mut disk, MARKS, file)?)
+    Ok(append(alloc, &mut disk, body, None)? && holds(alloc, &mut disk, MARKS, file)?)
 }
 
 // The files of a store with one point: each is one body, written by one append to an empty file.
@@ -233,15 +256,30 @@ fn worked_files_are_written_and_read(rt: HostRuntime) -> Result<(), Fail> {
 
 // ---- what a crash leaves
 
-/// How many of "abc", and "abc" and "xy", the file of marks has; none where it has others.
-fn which(alloc: Global, disk: &mut MemoryDisk) -> Result<Option<usize>, AllocError> {
-    let lists: [&[Wanted]; 3] = [&[], &[(0, b"abc")], &[(0, b"abc"), (12, b"xy")]];
-    for (n, want) in lists.iter().enumerate() {
-        if has(alloc, disk, want)? {
-            return Ok(Some(n));
-        }
+const ABC: Wanted = (0, b"abc");
+
+const XY: Wanted = (12, b"xy");
+
+/// How many of "abc", and "abc" and "xy", there are; none where there are others.
+fn count_of(bodies: &[Body]) -> Option<usize> {
+    if are(bodies, &[]) {
+        Some(0)
+    } else if are(bodies, &[ABC]) {
+        Some(1)
+    } else if are(bodies, &[ABC, XY]) {
+        Some(2)
+    } else {
+        None
     }
-    Ok(None)
+}
+
+/// The same of the file of marks.
+fn which(alloc: Global, disk: &mut MemoryDisk) -> Result<Option<usize>, AllocError> {
+    match read_all(alloc, disk, MARKS) {
+        Ok((_, bodies)) => Ok(count_of(&bodies)),
+        Err(GateFault::NoMemory) => Err(AllocError),
+        Err(_) => Ok(None),
+    }
 }
 
 /// The same of what a crash at this moment may leave.
@@ -256,21 +294,6 @@ fn left(
     }
     let mut image = disk.image(moment, choice)?;
     which(alloc, &mut image)
-}
-
-/// Appends "abc" and then "xy".
-fn two<D: Disk>(alloc: Global, disk: &mut D) -> Result<bool, AllocError>
-    requires { IsTrue D.tells → IsSettled (D.view disk.old) MARKS }
-{
-    match opened(alloc, disk, MARKS) {
-        Some(mut gated) => {
-            if !add(alloc, disk, &mut gated, b"abc")? {
-                return Ok(false);
-            }
-            add(alloc, disk, &mut gated, b"xy")
-        }
-        None => Ok(false),
-    }
 }
 
 fn leaves_in_order(
@@ -289,7 +312,7 @@ fn leaves_in_order(
 #[test]
 fn images_have_the_bodies_in_order(rt: HostRuntime) -> Result<(), Fail> {
     let mut disk = MemoryDisk::new(rt.alloc());
-    assert!(rt; two(rt.alloc(), &mut disk)?);
+    assert!(rt; append(rt.alloc(), &mut disk, b"abc", Some(b"xy"))?);
     let calls = disk.calls().len() as u64;
     assert_eq!(rt; calls, 12);
     for moment in 0..calls + 1 {
@@ -338,7 +361,7 @@ fn leaves_one(alloc: Global, disk: &MemoryDisk, done: bool) -> Result<bool, Allo
 fn fails_at(alloc: Global, place: u64) -> Result<bool, AllocError> {
     let plan = vec![in alloc; place]?;
     let mut disk = MemoryDisk::failing(alloc, plan);
-    let done = one(alloc, &mut disk, b"abc")?;
+    let done = append(alloc, &mut disk, b"abc", None)?;
     Ok(done == (place == 8) && are_in_order(disk.calls(), place) && leaves_one(alloc, &disk, done)?)
 }
 

@@ -1,10 +1,12 @@
 //! The journal: changes of each kind are written and taken, batch by batch, and a stop stands.
 ghost use Rattle.gor_journal.specs.Entries.{InLimits};
 
+use crate::logs::is_read;
+use crate::names::name_of;
 use gor_journal::{Buffers, Entry, Journal};
-use gor_log::{LogFault, LogRecord, read_log};
-use gor_name::{Name, NameFault};
-use std::alloc::{AllocError, Global};
+use gor_log::LogRecord;
+use gor_name::Name;
+use std::alloc::AllocError;
 use std::test::Fail;
 
 // A put of a new series `a` in slot 0 with the floor 0, at time 10 with the word 1: the bodies of its key record and of its
@@ -43,14 +45,6 @@ fn are_of(buffers: &Buffers, first: u64, last: u64, changes: u64, top: Option<u3
     (buffers.first, buffers.last, buffers.changes, buffers.top) == (first, last, changes, top)
 }
 
-fn name_of(alloc: Global, text: &str) -> Result<Option<Name>, AllocError> {
-    match Name::read(alloc, text) {
-        Ok(name) => Ok(Some(name)),
-        Err(NameFault::NoMemory) => Err(AllocError),
-        Err(_) => Ok(None),
-    }
-}
-
 fn put_a(journal: &mut Journal, name: &Name) -> Result<bool, AllocError> {
     let entry = Entry::Create {
         slot: 0,
@@ -79,46 +73,34 @@ fn a_put_of_a_new_series(rt: HostRuntime) -> Result<(), Fail> {
 
 fn change_each_way(journal: &mut Journal, name: &Name) -> Result<bool, AllocError> {
     let entries = [
-        Entry::Create {
-            slot: 1,
-            floor: 7200,
-            name,
-            time: 14400,
-            word: 2,
-        },
-        Entry::Put {
-            uid: 5,
-            time: 14399,
-            word: 3,
-        },
-        Entry::Delete { slot: 1 },
-        Entry::Floor { window: 9 },
-        Entry::Seal { uid: 3, window: 9 },
+        (
+            Entry::Create {
+                slot: 1,
+                floor: 7200,
+                name,
+                time: 14400,
+                word: 2,
+            },
+            5,
+        ),
+        (
+            Entry::Put {
+                uid: 5,
+                time: 14399,
+                word: 3,
+            },
+            6,
+        ),
+        (Entry::Delete { slot: 1 }, 7),
+        (Entry::Floor { window: 9 }, 8),
+        (Entry::Seal { uid: 3, window: 9 }, 9),
     ];
-    for (entry, number) in entries.iter().zip([5, 6, 7, 8, 9]) {
-        if !add(journal, entry, number)? {
+    for (entry, number) in &entries {
+        if !add(journal, entry, *number)? {
             return Ok(false);
         }
     }
     Ok(true)
-}
-
-/// Whether the body of a batch behind the place of its length is read as these changes with these records.
-fn is_batch(
-    alloc: Global,
-    log: &[u8],
-    changes: (u64, u64),
-    records: &[LogRecord],
-) -> Result<bool, AllocError> {
-    match read_log(alloc, log.get(8..).unwrap_or(&[])) {
-        Ok(batch) => Ok(
-            batch.version == 1
-                && (batch.first, batch.last) == changes
-                && batch.records.as_slice() == records,
-        ),
-        Err(LogFault::NoMemory) => Err(AllocError),
-        Err(LogFault::Wrong { .. }) => Ok(false),
-    }
 }
 
 const EACH_WAY: [LogRecord; 4] = [
@@ -145,7 +127,9 @@ fn changes_of_each_kind(rt: HostRuntime) -> Result<(), Fail> {
     let mut buffers = Buffers::new(rt.alloc());
     journal.take(&mut buffers);
     assert!(rt; buffers.keys.as_slice() == BEGUN_AND_ENDED.as_slice());
-    assert!(rt; is_batch(rt.alloc(), &buffers.log, (5, 9), &EACH_WAY)?);
+    // The body of the batch stands behind the place of its length.
+    let body = buffers.log.get(8..).ok_or("a batch")?;
+    assert!(rt; is_read(rt.alloc(), body, (5, 9), &EACH_WAY)?);
     assert_eq!(rt; buffers.changes, 5);
     Ok(())
 }

@@ -4,9 +4,9 @@ ghost use Rattle.std.specs.List.{AllByRecursion};
 ghost use Rattle.gor_model.specs.declared.unit.Unit.TheVariants.{Second};
 ghost use Rattle.gor_keys.specs.Spelling.{InLimits};
 
+use crate::names::name_of;
 use gor_keys::{KeyFault, KeyRecord, read_keys, write_keys};
 use gor_model::{Unit, Wrong};
-use gor_name::{Name, NameFault};
 use std::alloc::{AllocError, Global};
 use std::process::Abort;
 use std::test::Fail;
@@ -116,14 +116,6 @@ fn a_delete_is_written(rt: HostRuntime) -> Result<(), Fail> {
     let want = [2, 2, 0, 0, 0, 0, 0, 0, 0, 2, 0, 0, 0, 9];
     assert!(rt; is_written(rt.alloc(), Unit::Milli, &records, &want)?);
     Ok(())
-}
-
-fn name_of(alloc: Global, text: &str) -> Result<Option<Name>, AllocError> {
-    match Name::read(alloc, text) {
-        Ok(name) => Ok(Some(name)),
-        Err(NameFault::NoMemory) => Err(AllocError),
-        Err(_) => Ok(None),
-    }
 }
 
 fn is_create_written(alloc: Global, unit: Unit, want: &[u8]) -> Result<bool, AllocError> {
@@ -330,6 +322,14 @@ fn body_of(alloc: Global, count: u16) -> Result<Vec<u8>, AllocError> {
     Ok(out)
 }
 
+fn is_entry(alloc: Global, found: Option<&KeyRecord>, index: u16) -> Result<bool, AllocError> {
+    let want = entry_at(alloc, index)?;
+    match found {
+        Some(entry) => Ok(fields(entry) == fields(&want)),
+        None => Ok(false),
+    }
+}
+
 fn check_many(
     rt: &impl Abort,
     alloc: Global,
@@ -337,9 +337,9 @@ fn check_many(
     count: u16,
 ) -> Result<(), AllocError> {
     assert_eq!(rt; records.len(), usize::from(count));
-    for (index, entry) in (0..count).zip(records.iter()) {
-        let want = entry_at(alloc, index)?;
-        assert!(rt; fields(entry) == fields(&want), "at {index}");
+    for index in 0..count {
+        let is_there = is_entry(alloc, records.get(usize::from(index)), index)?;
+        assert!(rt; is_there, "at {index}");
     }
     Ok(())
 }

@@ -5,7 +5,7 @@
 //! - `disks`: the disk in memory; `silent`: a disk that tells nothing.
 //! - `gates`: gated files; `pairs`: two of them that get a body each.
 //! - `marks`, `keys`, `logs`, `slabs`: the formats of what stands in them.
-//! - `journals`: the changes that wait for a flush.
+//! - `journals`: the changes that wait for a flush. `names`: names for their records.
 #![tactic(auto)]
 
 #[cfg(test)]
@@ -20,6 +20,8 @@ mod keys;
 mod logs;
 #[cfg(test)]
 mod marks;
+#[cfg(test)]
+mod names;
 #[cfg(test)]
 mod pairs;
 #[cfg(test)]

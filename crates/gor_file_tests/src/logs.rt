@@ -29,7 +29,7 @@ const GREATEST: [u8; 38] = [
 // ---- batches that are read
 
 /// Whether a body is read as these changes with these records.
-fn is_read(
+pub fn is_read(
     alloc: Global,
     body: &[u8],
     changes: (u64, u64),
@@ -232,8 +232,9 @@ fn body_of(alloc: Global, count: u16) -> Result<Vec<u8>, AllocError> {
 
 fn check_many(rt: &impl Abort, records: &[LogRecord], count: u16) {
     assert_eq!(rt; records.len(), usize::from(count));
-    for (index, entry) in (0..count).zip(records.iter()) {
-        assert!(rt; *entry == record_at(index), "at {index}");
+    for index in 0..count {
+        let found = records.get(usize::from(index)).copied();
+        assert!(rt; found == Some(record_at(index)), "at {index}");
     }
 }
 

@@ -147,33 +147,36 @@ fn no_blocks_have_no_slab(rt: HostRuntime) -> Result<(), Fail> {
     Ok(())
 }
 
-/// Whether a file of two blocks, of which the second begins this many bytes before the end of the first slab, has this
-/// length, and is read so.
-fn go_both_ways(
-    alloc: Global,
-    writer: &mut SlabWriter,
+/// A file of two blocks: the second begins `before` bytes before the end of the first slab, so the first has `first` bytes,
+/// and the file has `len`.
+#[derive(Clone, Copy)]
+struct Two {
     unit: Unit,
     before: u32,
+    first: u32,
     len: usize,
-) -> Result<bool, AllocError> {
-    let file = two_blocks(alloc, writer, before)?;
-    let first = 65_536u32.saturating_sub(before);
-    let rows = [
-        row(9_223_372_036_854_775_807, 596_522, 0, first),
-        row(2, 0, u64::from(first), 21),
-    ];
-    Ok(file.len() == len && is_read(alloc, &file, 596_522, unit, &rows)?)
 }
 
-// The bytes of a file of two blocks in one slab, and in two.
-const IN_ONE: usize = 24 + 65_536 + 2 * 24;
-
-const IN_TWO: usize = 24 + 2 * 65_536 + 2 * 24;
+/// Whether the file of two blocks has its length, and is read so.
+fn go_both_ways(alloc: Global, writer: &mut SlabWriter, two: Two) -> Result<bool, AllocError> {
+    let file = two_blocks(alloc, writer, two.before)?;
+    let rows = [
+        row(9_223_372_036_854_775_807, 596_522, 0, two.first),
+        row(2, 0, u64::from(two.first), 21),
+    ];
+    Ok(file.len() == two.len && is_read(alloc, &file, 596_522, two.unit, &rows)?)
+}
 
 #[test]
 fn blocks_cross_a_border(rt: HostRuntime) -> Result<(), Fail> {
     let mut writer = SlabWriter::new(rt.alloc(), Unit::Milli);
-    assert!(rt; go_both_ways(rt.alloc(), &mut writer, Unit::Milli, 6, IN_TWO)?);
+    let two = Two {
+        unit: Unit::Milli,
+        before: 6,
+        first: 65_530,
+        len: 24 + 2 * 65_536 + 2 * 24,
+    };
+    assert!(rt; go_both_ways(rt.alloc(), &mut writer, two)?);
     Ok(())
 }
 
@@ -181,9 +184,30 @@ fn blocks_cross_a_border(rt: HostRuntime) -> Result<(), Fail> {
 #[test]
 fn a_full_slab_has_no_padding(rt: HostRuntime) -> Result<(), Fail> {
     let mut writer = SlabWriter::new(rt.alloc(), Unit::Second);
-    for (before, len) in [(21, IN_ONE), (20, IN_TWO), (0, IN_TWO)] {
-        let both = go_both_ways(rt.alloc(), &mut writer, Unit::Second, before, len)?;
-        assert!(rt; both, "{before} bytes before");
+    let unit = Unit::Second;
+    let rows = [
+        Two {
+            unit,
+            before: 21,
+            first: 65_515,
+            len: 24 + 65_536 + 2 * 24,
+        },
+        Two {
+            unit,
+            before: 20,
+            first: 65_516,
+            len: 24 + 2 * 65_536 + 2 * 24,
+        },
+        Two {
+            unit,
+            before: 0,
+            first: 65_536,
+            len: 24 + 2 * 65_536 + 2 * 24,
+        },
+    ];
+    for two in rows {
+        let both = go_both_ways(rt.alloc(), &mut writer, two)?;
+        assert!(rt; both, "{} bytes before", two.before);
     }
     Ok(())
 }
