@@ -24,6 +24,3 @@ pub use cell::Cell;
 pub use cell_put::CellPut;
 pub use copied::{Copied, SealedBlocks};
 pub use live::LiveCell;
-
-#[cfg(test)]
-mod tests;

@@ -17,6 +17,3 @@ mod rows;
 
 pub use directory::Directory;
 pub use row::DirRow;
-
-#[cfg(test)]
-mod tests;

@@ -1,7 +1,7 @@
 use Rattle.std.proofs.Common.{sym, subst, arith}
 use Rattle.gor_model.specs.Objects.{Has}
 use Rattle.gor_dir.proofs.StartSteps.{starts_free, has_other}
-use Rattle.gor_dir.proofs.tests.a_start_is_restored_in_any_order.Goals as goal
+use Rattle.gor_cell_tests.proofs.dir.a_start_is_restored_in_any_order.Goals as goal
 
 pub take_up-requires : goal.take_up-requires
 take_up-requires g c = starts_free _ 5 4 c.in_ok-directory.ensures.start (omega arith)
