@@ -90,8 +90,7 @@ among_both P Q (x ∷ xs) ys e ps qs (inr more) = among_both P Q xs ys e ps.1 qs
 flushes_by : (stopped : Option ℕ) (events : List Numbered) → ClosesBy stopped events → AllByRecursion (λ (e : Numbered). IsOfLastFlush e.1) events
 flushes_by None events closes = subst (AllByRecursion (λ (e : Numbered). IsOfLastFlush e.1)) (sym closes.5) (
   record { lane = refl; flushes = tt; adds_nothing = refl },
-  record { lane = refl; flushes = tt; adds_nothing = refl },
-  tt,
+  (record { lane = refl; flushes = tt; adds_nothing = refl }, tt),
 )
 flushes_by (Some shard) events closes = by closes.1 where
   by : ((number : ℕ) × (events ≡ (number, take_refused 8) ∷ [])) ⊎ ((take stop taken : ℕ) × (events ≡ (take, take_made 8 taken) ∷ (stop, stop_made 8) ∷ []))
@@ -99,8 +98,7 @@ flushes_by (Some shard) events closes = by closes.1 where
   by (inl refused) = subst (AllByRecursion (λ (e : Numbered). IsOfLastFlush e.1)) (sym refused.1) (record { lane = refl; flushes = tt; adds_nothing = refl }, tt)
   by (inr stops) = subst (AllByRecursion (λ (e : Numbered). IsOfLastFlush e.1)) (sym stops.3) (
     record { lane = refl; flushes = tt; adds_nothing = refl },
-    record { lane = refl; flushes = tt; adds_nothing = refl },
-    tt,
+    (record { lane = refl; flushes = tt; adds_nothing = refl }, tt),
   )
 
 of_eight : (events : List Numbered) (k : ℕ) → AllByRecursion (λ (e : Numbered). IsOfLastFlush e.1) events → AllByRecursion (λ (e : Numbered). IsOfLastFlush e.1) (only_last events k)
