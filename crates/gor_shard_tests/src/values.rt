@@ -1,9 +1,10 @@
 //! The values of a shard are those of the rows that were recovered.
-ghost use Rattle.std.specs.Prelude.{◌≡◌, ◌≤◌, false, IfOk};
+ghost use Rattle.std.specs.Prelude.{◌≡◌, [], false, IfOk};
+ghost use Rattle.gor_model.specs.Shares.{device_share};
 ghost use Rattle.gor_model.specs.Starts.{IsStart};
-ghost use Rattle.gor_model.specs.Windows.{slots_of_a_shard};
 ghost use Rattle.gor_image.specs.Recovered.{recovered_start};
-ghost use Rattle.gor_flush.specs.Devices.{shown};
+ghost use Rattle.gor_flush.specs.Devices.{StandsFor, shown};
+ghost use Rattle.gor_flush.specs.Starts.{start_with};
 ghost use Rattle.gor_shard_tests.specs.Devices.{IsOfAnyRows};
 
 use crate::rows::{no_rows, two_rows};
@@ -16,8 +17,18 @@ use gor_image::Recovered;
 use gor_journal::Journal;
 use gor_store::values_of;
 use std::alloc::{AllocError, Global};
-use std::process::Abort;
 use std::test::Fail;
+
+// The device that an opening of an empty disk gave, as that of any rows.
+fn any_device<D: Disk>(device: Device<D>, recovered: &Recovered) -> Device<D>
+    requires silent { D.tells ≡ false }
+    requires empty { (recovered.now.floor ≡ 0) × (recovered.now.next ≡ 1) }
+    requires stands { StandsFor (shown D.tells D.view D.faults device) (start_with 2 recovered.now (shown D.tells D.view D.faults device)) (device_share (start_with 2 recovered.now (shown D.tells D.view D.faults device)) []) }
+    ensures { IsOfAnyRows (shown D.tells D.view D.faults result) }
+{
+    let _ = recovered;
+    device
+}
 
 // The device of a disk that tells nothing.
 fn device_of<D: Disk>(alloc: Global, disk: D) -> Result<Device<D>, Fail>
@@ -30,7 +41,7 @@ fn device_of<D: Disk>(alloc: Global, disk: D) -> Result<Device<D>, Fail>
     if recovered.floor != 0 || recovered.next != 1 {
         return Err(Fail::new("an empty disk"));
     }
-    Ok(device)
+    Ok(any_device(device, &recovered))
 }
 
 // The values of a shard of so many slots.
@@ -134,10 +145,12 @@ fn is_of_slot<D: Disk>(values: &[Part<D>], slot: usize, fact: Fact) -> Result<bo
 
 // Whether there are so many slots, each with a cell.
 fn has_slots<D: Disk>(values: &[Part<D>], slots: usize) -> bool {
-    let cells = values
-        .iter()
-        .filter(|part| matches!(part, Part::Series(_)))
-        .count();
+    let mut cells: usize = 0;
+    for value in values {
+        if let Part::Series(_) = value {
+            cells = cells.saturating_add(1);
+        }
+    }
     cells == slots
 }
 
