@@ -6,7 +6,7 @@ use crate::machine::Fails::Nothing;
 use crate::machine::Input::Bytes;
 use crate::machine::{call_of, called_dump, called_run};
 use crate::steps::write_store;
-use gor_folder::{FolderDisk, shard_disk, store_disks};
+use gor_folder::{FolderDisk, dump_disks, shard_disk, store_disks};
 use gor_outside::{Failed, MemorySink, NoPause, Sink};
 use gor_run::{Outcome, Status};
 use std::alloc::AllocError;
@@ -98,7 +98,7 @@ fn is_done<R: AllocGlobal + Threads + Wait + Sync>(
 ) -> Result<bool, AllocError> {
     match step {
         Step::Run(input, text) => is_run(rt, store_disks(host, store)?, input, text),
-        Step::Dump(status, text) => is_dump(host, store_disks(host, store)?, status, text),
+        Step::Dump(status, text) => is_dump(host, dump_disks(host, store)?, status, text),
         Step::Lay => lays(host, store),
         Step::Stands(path, wanted) => Ok(fs::exists(host, path).is_ok_and(|found| found == wanted)),
         Step::Make(path) => Ok(fs::write(host, path, b"").is_ok()),
