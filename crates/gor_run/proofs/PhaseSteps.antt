@@ -1,6 +1,6 @@
 -- The phases of a run: what the passes of a shard have served grows by each of them, and what the sink holds by its text.
 use Rattle.std.proofs.Common.{◌≡◌, ℕ, zero, suc, ◌+◌, ◌*◌, ◌^◌, ◌<◌, ◌≤◌, List, [], ◌∷◌, ◌++◌, length, drop, get_or, Option, Some, slice_get, refl, sym, ap, subst, ◌∙◌, drop-cons, arith}
-use Rattle.std.specs.Prelude.{map, sum_by}
+use Rattle.std.specs.Prelude.{map, flat_map, sum_by}
 use Rattle.std.specs.List.{AllByRecursion}
 use Rattle.std.specs.Io.KnownBytes.{Appends}
 use Rattle.std.proofs.lemmas.List.{append_assoc, append-nil, drop_all, map-append, length-append, length-map}
@@ -11,7 +11,9 @@ use Rattle.gor_finish.specs.Made.{Numbered}
 use Rattle.gor_hall.specs.declared.pass.Pass.{Pass}
 use Rattle.gor_hall.specs.Passes.{made, lane_of}
 use Rattle.gor_text.specs.LineAnswers.{LineAnswers}
+use Rattle.gor_text.specs.Spelling.{answer_line}
 use Rattle.gor_text.specs.Transcripts.{Served, phase_text_from, text_of}
+use Rattle.gor_text.proofs.ActAnswers.{phase_told}
 use Rattle.gor_text.specs.declared.answer.LaneAnswer.{LaneAnswer}
 use Rattle.gor_text.specs.declared.workload.Line.{Line}
 use Rattle.gor_text.proofs.Interleavings.{all-append}
@@ -86,7 +88,7 @@ served_more olds news phases lanes text more h a =
           (all-append (AllByRecursion (AllByRecursion (λ (s : Served). LineAnswers 1 s.line s.acts))) (served_in h.runs) (last ∷ []) h.answered
           (all_mapped (AllByRecursion (λ (s : Served). LineAnswers 1 s.line s.acts)) (λ (run : LaneRun). run.served) r.runs r.answered, tt));
       tells = ap (λ (t : List ℕ). t ++ more) h.tells
-          ∙ (ap (λ (t : List ℕ). text_of (served_in h.runs) ++ t) (a.is ∙ (r.tells ∙ (sym (append-nil (phase_text_from 0 last)) ∙ sym (flat_map-cons (phase_text_from 0) last []))))
+          ∙ (ap (λ (t : List ℕ). text_of (served_in h.runs) ++ t) (a.is ∙ (ap (flat_map answer_line) r.tells ∙ (phase_told 0 last ∙ (sym (append-nil (phase_text_from 0 last)) ∙ sym (flat_map-cons (phase_text_from 0) last [])))))
           ∙ (sym (flat_map-append (phase_text_from 0) (served_in h.runs) (last ∷ [])) ∙ ap text_of (sym grows)));
     }
 
@@ -107,7 +109,7 @@ part_more olds news phases lanes text more held grown after h a appended part = 
   are = served_more_in olds news phases lanes text more h a;
   front = part.front;
   rest = part.rest;
-  parted = sym (a.is ∙ a.ran.tells) ∙ part.parted;
+  parted = sym (a.is ∙ (ap (flat_map answer_line) a.ran.tells ∙ phase_told 0 (map (λ (r : LaneRun). r.served) a.ran.runs))) ∙ part.parted;
   left = part.left;
   written = subst (λ (t : List ℕ). Appends held after (t ++ part.front)) h.tells (grown_twice held grown after text part.front appended part.written);
 }

@@ -14,8 +14,8 @@ use Rattle.gor_hall.specs.Steps.{HasLooked}
 use Rattle.gor_finish.specs.Made.{Numbered}
 use Rattle.gor_text.proofs.Interleavings.{all-map}
 use Rattle.gor_text.specs.LineAnswers.{LineAnswers}
-use Rattle.gor_text.specs.Spelling.{answer_line}
-use Rattle.gor_text.specs.Transcripts.{Served, act_text, lane_text, printed_line, printed_act}
+use Rattle.gor_text.specs.ActAnswers.{act_answer, lane_answers}
+use Rattle.gor_text.specs.Transcripts.{Served, printed_line, printed_act}
 use Rattle.gor_text.specs.declared.answer.LaneAnswer.{LaneAnswer}
 use Rattle.gor_text.specs.declared.workload.Line.{Line}
 use Rattle.gor_text.specs.declared.workload.Line.TheVariants.{Put, Get, Del, Flush, Finish, Merge}
@@ -81,9 +81,9 @@ served_more lines line old mid new before between after same a s =
         all_joined (λ (x : Served). LineAnswers 1 x.line x.acts) a.served (one ∷ []) a.are.1 (s.1, tt),
       );
       after_is = t.after_is ∙ (ap (λ (z : List LaneAnswer). z ++ t.told) a.after_is ∙ append_assoc before a.told t.told);
-      tells = flat_map-append answer_line a.told t.told ∙ (ap (λ (z : List ℕ). z ++ flat_map answer_line t.told) a.tells
-          ∙ (ap (λ (z : List ℕ). lane_text l a.served ++ z) (t.tells ∙ ap (λ (k : ℕ). flat_map (act_text k) s.0) same)
-          ∙ sym (flat_last (λ (x : Served). flat_map (act_text l) x.acts) a.served one)));
+      tells = ap (λ (z : List LaneAnswer). z ++ t.told) a.tells
+          ∙ (ap (λ (z : List LaneAnswer). lane_answers l a.served ++ z) (t.tells ∙ ap (λ (k : ℕ). map (act_answer k) s.0) same)
+          ∙ sym (flat_last (λ (x : Served). map (act_answer l) x.acts) a.served one));
       prints = λ phase. flat_last (printed_line 0 phase l) a.served one
           ∙ (ap (λ z. z ++ flat_map (printed_act 0 phase l) s.0) (a.prints phase)
           ∙ (ap (λ z. map (printed_of phase l) (reverse a.events) ++ z) ((subst (λ (k : ℕ). Prints k s.0 t.events) same t.prints).prints phase)
@@ -133,7 +133,7 @@ runs_lane lines before old mid new told same lane own long waited a =
     record {
       run = record { served = a.served; events = events };
       are = a.are;
-      tells = ap (flat_map answer_line) a.after_is ∙ (a.tells ∙ ap (λ (k : ℕ). lane_text k a.served) same);
+      tells = a.after_is ∙ (a.tells ∙ ap (λ (k : ℕ). lane_answers k a.served) same);
       is_run = record {
         prints = λ phase. subst (λ (k : ℕ). flat_map (printed_line 0 phase k) a.served ≡ map (printed_of phase k) (reverse a.events)) same (a.prints phase);
         own = subst (λ (k : ℕ). AllByRecursion (λ (e : Numbered). e.1.lane ≡ k) events) same (all_reverse (λ (e : Numbered). e.1.lane ≡ lane_of mid) a.events a.own);

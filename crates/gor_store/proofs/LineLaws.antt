@@ -1,7 +1,6 @@
 -- Each answer of a call is one that its line may have.
-use Rattle.std.proofs.Common.{None, ⊎_elim, inr, ◌≡◌, ℕ, ◌+◌, ◌%◌, ◌≤◌, ◌<◌, List, [], ◌∷◌, ◌++◌, flat_map, Bool, true, false, refl, sym, ap, ◌∙◌, subst, arith}
-use Rattle.std.proofs.lemmas.List.{append-nil}
-use Rattle.std.proofs.lemmas.Grind.{flat_map-append}
+use Rattle.std.proofs.Common.{None, ⊎_elim, inr, ◌≡◌, ℕ, ◌+◌, ◌%◌, ◌≤◌, ◌<◌, List, [], ◌∷◌, ◌++◌, map, Bool, true, false, refl, sym, ap, ◌∙◌, subst, arith}
+use Rattle.std.proofs.lemmas.List.{append-nil, map-append}
 use Rattle.gor_model.specs.Names.{IsName, key_of, shard_of, fnv1a}
 use Rattle.gor_model.specs.Windows.{greatest_time}
 use Rattle.gor_model.specs.declared.event.Call.{Call}
@@ -23,8 +22,7 @@ use Rattle.gor_steps.specs.declared.puts.PutFault.{PutFault}
 use Rattle.gor_steps.specs.declared.puts.PutFault.TheVariants as put_fault
 use Rattle.gor_steps.specs.declared.puts.PutAnswer.{PutAnswer}
 use Rattle.gor_steps.specs.declared.puts.PutAnswer.TheVariants as answer
-use Rattle.gor_text.specs.Spelling.{answer_line, what_line}
-use Rattle.gor_text.specs.Transcripts.{act_text}
+use Rattle.gor_text.specs.ActAnswers.{act_answer}
 use Rattle.gor_text.specs.declared.answer.LaneAnswer.{LaneAnswer}
 use Rattle.gor_text.specs.declared.answer.Reason.{Reason}
 use Rattle.gor_text.specs.declared.answer.Reason.TheVariants as reason
@@ -40,6 +38,10 @@ use Rattle.gor_store.proofs.LineCalls.{ActBy, line_acts, acts_by}
 use Rattle.gor_store.proofs.RunLaws.{no_run, none_run, one_run, flush_run, runs_on, none_made, some_on, some_wider, prints_none, prints_one, prints_on}
 use Rattle.gor_store.proofs.StoryLists.{all_front}
 
+-- one answer alone
+abbrev told_one : ℕ → What → List LaneAnswer
+told_one lane what = record { lane = lane; what = what } ∷ []
+
 -- there is one shard
 one_shard : (n : ℕ) → n % 1 ≡ 0
 one_shard n = omega arith
@@ -54,7 +56,7 @@ told_refused line old new why may run = record {
   acts = Refused why ∷ [];
   events = [];
   may = may;
-  tells = sym (append-nil (act_text (lane_of old) (Refused why)));
+  tells = refl;
   prints = prints_none (lane_of old) (Refused why) (λ phase. refl);
   run = run;
 }
@@ -65,7 +67,7 @@ put_refused name time word old new why put is due may run = record {
   acts = Refused why ∷ [];
   events = [];
   may = λ rest follows. subst (λ (z : List Act). LineAnswers 1 (line_.Put name time word) (Refused why ∷ z)) (sym (subst (λ (b : Bool). FollowsDue b rest) due follows)) may;
-  tells = ap (what_line (lane_of old)) is ∙ sym (append-nil (act_text (lane_of old) (Refused why)));
+  tells = ap (λ (w : What). told_one (lane_of old) w) is;
   prints = prints_none (lane_of old) (Refused why) (λ phase. refl);
   run = run;
 }
@@ -92,7 +94,7 @@ told_event line name old new n c r may makes = record {
   acts = Made 0 n c r ∷ [];
   events = (n, said (lane_of old) makes.slot c r) ∷ [];
   may = subst (λ (s : ℕ). LineAnswers 1 line (Made s n c r ∷ [])) (shard_zero name) may;
-  tells = sym (append-nil (act_text (lane_of old) (Made 0 n c r)));
+  tells = refl;
   prints = prints_one (lane_of old) n c r (n, said (lane_of old) makes.slot c r) refl refl refl refl;
   run = one_run old new n c r makes;
 }
@@ -123,7 +125,7 @@ told_put name spelt time word old new n a put is due same named early made =
       may = λ rest follows. subst (λ (s : ℕ). LineAnswers 1 (line_.Put name time word) (Made s n (call.Put name (key_of name) time word) (put_reply a) ∷ rest)) (shard_zero name)
           (LineAnswers.put name time word n (put_reply a) rest named early
           (subst (λ (s : ℕ). FollowsPut s (put_reply a) rest) (sym (shard_zero name)) (follows_due a rest (subst (λ (b : Bool). FollowsDue b rest) due follows))));
-      tells = ap (what_line (lane_of old)) is ∙ sym (append-nil (act_text (lane_of old) (Made 0 n (call.Put name (key_of name) time word) (put_reply a))));
+      tells = ap (λ (w : What). told_one (lane_of old) w) is;
       prints = prints_one (lane_of old) n (call.Put name (key_of name) time word) (put_reply a) (n, said (lane_of old) makes.slot (call.Put name (key_of name) time word) (put_reply a)) refl refl refl refl;
       run = one_run old new n (call.Put name (key_of name) time word) (put_reply a) makes;
     }
@@ -139,7 +141,7 @@ told_flush old new (flushed.Flushed take taken done changes) lane before after i
         told = flush_told lane (flushed.Flushed take taken done changes);
         events = (done, done_made l f.0 changes) ∷ (take, take_made l taken) ∷ [];
         after_is = told;
-        tells = ap (λ (z : ℕ). flat_map answer_line (flush_told z (flushed.Flushed take taken done changes))) is;
+        tells = ap (λ (z : ℕ). flush_told z (flushed.Flushed take taken done changes)) is;
         prints = prints_on l (Made 0 take call.Take (reply.Take taken) ∷ []) (Made 0 done (call.Done None f.0) (reply.Done changes) ∷ []) ((take, take_made l taken) ∷ []) ((done, done_made l f.0 changes) ∷ [])
             (prints_one l take call.Take (reply.Take taken) (take, take_made l taken) refl refl refl refl) (prints_one l done (call.Done None f.0) (reply.Done changes) (done, done_made l f.0 changes) refl refl refl refl);
         run = flush_run old new ((done, done_made l f.0 changes) ∷ (take, take_made l taken) ∷ []) f.1;
@@ -153,7 +155,7 @@ told_flush old new (flushed.Stopped number) lane before after is f told =
         told = flush_told lane (flushed.Stopped number);
         events = (number, take_refused l) ∷ [];
         after_is = told;
-        tells = ap (λ (z : ℕ). flat_map answer_line (flush_told z (flushed.Stopped number))) is;
+        tells = ap (λ (z : ℕ). flush_told z (flushed.Stopped number)) is;
         prints = prints_one l number call.Take reply.Stopped (number, take_refused l) refl refl refl refl;
         run = flush_run old new ((number, take_refused l) ∷ []) f;
       },
@@ -166,7 +168,7 @@ told_flush old new (flushed.Fault take taken stop) lane before after is f told =
         told = flush_told lane (flushed.Fault take taken stop);
         events = (stop, stop_made l) ∷ (take, take_made l taken) ∷ [];
         after_is = told;
-        tells = ap (λ (z : ℕ). flat_map answer_line (flush_told z (flushed.Fault take taken stop))) is;
+        tells = ap (λ (z : ℕ). flush_told z (flushed.Fault take taken stop)) is;
         prints = prints_on l (Made 0 take call.Take (reply.Take taken) ∷ []) (Made 0 stop call.Stop reply.Stop ∷ []) ((take, take_made l taken) ∷ []) ((stop, stop_made l) ∷ [])
             (prints_one l take call.Take (reply.Take taken) (take, take_made l taken) refl refl refl refl) (prints_one l stop call.Stop reply.Stop (stop, stop_made l) refl refl refl refl);
         run = flush_run old new ((stop, stop_made l) ∷ (take, take_made l taken) ∷ []) f;
@@ -185,7 +187,7 @@ serves_one line old new what lane before after is t told = (
     told = record { lane = lane; what = what } ∷ [];
     events = t.events;
     after_is = told;
-    tells = append-nil (what_line lane what) ∙ (ap (λ (z : ℕ). what_line z what) is ∙ t.tells);
+    tells = ap (λ (z : ℕ). told_one z what) is ∙ t.tells;
     prints = t.prints;
     run = t.run;
   },
@@ -216,9 +218,9 @@ serves_due name time word old mid new put lane before between after is same t du
         told = (record { lane = lane; what = put.what } ∷ []) ++ g.told;
         events = g.events ++ t.events;
         after_is = g.after_is ∙ (ap (λ (z : List LaneAnswer). z ++ g.told) told ∙ Rattle.std.proofs.Common.append_assoc before (record { lane = lane; what = put.what } ∷ []) g.told);
-        tells = ap (λ (z : List ℕ). z ++ flat_map answer_line g.told) (ap (λ (z : ℕ). what_line z put.what) is ∙ t.tells)
-            ∙ (ap (λ (z : List ℕ). flat_map (act_text (lane_of old)) t.acts ++ z) (g.tells ∙ ap (λ (l : ℕ). flat_map (act_text l) f.0) same)
-            ∙ sym (flat_map-append (act_text (lane_of old)) t.acts f.0));
+        tells = ap (λ (z : List LaneAnswer). z ++ g.told) (ap (λ (z : ℕ). told_one z put.what) is ∙ t.tells)
+            ∙ (ap (λ (z : List LaneAnswer). map (act_answer (lane_of old)) t.acts ++ z) (g.tells ∙ ap (λ (l : ℕ). map (act_answer l) f.0) same)
+            ∙ sym (map-append (act_answer (lane_of old)) t.acts f.0));
         prints = prints_on (lane_of old) t.acts f.0 t.events g.events t.prints (subst (λ (l : ℕ). Prints l f.0 g.events) same g.prints);
         run = runs_on old mid new t.events g.events same t.run g.run;
       },

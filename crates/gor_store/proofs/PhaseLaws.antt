@@ -1,19 +1,17 @@
 -- What the lanes of a phase did, one by one, and all together.
-use Rattle.std.proofs.Common.{◌≡◌, ℕ, zero, suc, ◌+◌, ◌*◌, ◌<◌, ◌≤◌, List, [], ◌∷◌, ◌++◌, length, map, flat_map, reverse, refl, sym, ap, ◌∙◌, subst, arith, Some, slice_get, get_or, Vec, Global}
+use Rattle.std.proofs.Common.{◌≡◌, ℕ, zero, suc, ◌+◌, ◌*◌, ◌<◌, ◌≤◌, List, [], ◌∷◌, ◌++◌, length, map, reverse, refl, sym, ap, ◌∙◌, subst, arith, Some, slice_get, get_or, Vec, Global}
 use Rattle.std.specs.Prelude.{Result, Ok, Err, OnOk, OnErr, is_ok}
 use Rattle.std.specs.List.{AllByRecursion}
 use mathlib.Core.Bool.{true≢false}
 use Rattle.std.proofs.lemmas.List.{reverse-reverse, length-map, get_or_past}
 use Rattle.std.proofs.lemmas.List.Concat.{flat_map-cons}
-use Rattle.std.proofs.lemmas.Grind.{flat_map-append}
 use Rattle.gor_hall.specs.declared.hall.Hall.{Hall}
 use Rattle.gor_hall.specs.declared.pass.Pass.{Pass}
 use Rattle.gor_hall.specs.Passes.{lane_of}
 use Rattle.gor_hall.proofs.Passing.{none_some, same_some}
 use Rattle.gor_finish.specs.Made.{Numbered}
 use Rattle.gor_text.specs.LineAnswers.{LineAnswers}
-use Rattle.gor_text.specs.Spelling.{answer_line}
-use Rattle.gor_text.specs.Transcripts.{lane_text, phase_text_from}
+use Rattle.gor_text.specs.ActAnswers.{lane_answers, phase_answers}
 use Rattle.gor_text.specs.declared.answer.LaneAnswer.{LaneAnswer}
 use Rattle.gor_text.specs.Workloads.{phase_lines}
 use Rattle.gor_text.specs.declared.workload.Line.{Line}
@@ -81,7 +79,7 @@ record LanesRan (k : ℕ) (phase : List (List Line)) (before : ℕ) (olds news :
   pub answered : AllByRecursion (λ r. AllByRecursion (λ s. LineAnswers 1 s.line s.acts) r.served) runs
   pub from : AllByRecursion (λ r. AllFrom before r.events) runs
   pub added : (i : ℕ) → Adds (passes_of olds) (passes_of news) (λ k. events_at k runs) i
-  pub tells : flat_map answer_line (answers_of news) ≡ phase_text_from k (map (λ r. r.served) runs)
+  pub tells : answers_of news ≡ phase_answers k (map (λ r. r.served) runs)
 
 ran_first : (k : ℕ) (lines : List Line) (phase : List (List Line)) (before : ℕ) (old new : Lane) (olds news : List Lane) → LaneRan k lines before old new → LanesRan (k + 1) phase before olds news
     → LanesRan k (lines ∷ phase) before (old ∷ olds) (new ∷ news)
@@ -94,10 +92,9 @@ ran_first k lines phase before old new olds news here there =
       answered = (r.are.1, there.answered);
       from = (r.from, there.from);
       added = adds_first old.pass new.pass (passes_of olds) (passes_of news) (λ i. events_at i (run ∷ there.runs)) (added_of old.pass new.pass run.events here.lane r.made) there.added;
-      tells = ap (flat_map answer_line) (flat_map-cons (λ (lane : Lane). lane.answers.items) new news)
-          ∙ (flat_map-append answer_line new.answers.items (answers_of news)
-          ∙ (ap (λ (z : List ℕ). z ++ flat_map answer_line (answers_of news)) (r.tells ∙ ap (λ (l : ℕ). lane_text l run.served) here.own)
-          ∙ ap (λ (z : List ℕ). lane_text k run.served ++ z) there.tells));
+      tells = flat_map-cons (λ (lane : Lane). lane.answers.items) new news
+          ∙ (ap (λ (z : List LaneAnswer). z ++ answers_of news) (r.tells ∙ ap (λ (l : ℕ). lane_answers l run.served) here.own)
+          ∙ ap (λ (z : List LaneAnswer). lane_answers k run.served ++ z) there.tells);
     }
 
 lanes_ran : (k : ℕ) (phase : List (List Line)) (before : ℕ) (olds news : List Lane) → length phase ≡ length olds → length news ≡ length olds
@@ -123,7 +120,7 @@ ran_phase phase before olds news after told eight as_many passes is a = subst (�
   answered = a.answered;
   from = a.from;
   added = record { as_many = length-map news (λ (l : Lane). l.pass) ∙ (as_many ∙ sym (length-map olds (λ (l : Lane). l.pass))); each = a.added };
-  tells = ap (flat_map answer_line) is ∙ a.tells;
+  tells = is ∙ a.tells;
 })
 
 -- ---- lanes of which some found no memory

@@ -5,8 +5,8 @@ use Rattle.gor_hall.specs.declared.pass.Pass.{Pass}
 use Rattle.gor_hall.specs.Passes.{lane_of}
 use Rattle.gor_finish.specs.Made.{Numbered}
 use Rattle.gor_text.specs.LineAnswers.{LineAnswers}
-use Rattle.gor_text.specs.Spelling.{answer_line}
-use Rattle.gor_text.specs.Transcripts.{Served, lane_text, printed_line}
+use Rattle.gor_text.specs.ActAnswers.{lane_answers}
+use Rattle.gor_text.specs.Transcripts.{Served, printed_line}
 use Rattle.gor_text.specs.declared.answer.LaneAnswer.{LaneAnswer}
 use Rattle.gor_text.specs.declared.workload.Line.{Line}
 use Rattle.gor_store.specs.Stories.{LaneRun, IsRun, AllFrom, printed_of}
@@ -33,7 +33,7 @@ pub record ServesAll (lines : List Line) (old new : Pass) (before after : List L
   pub events : List Numbered
   pub are : AreServed lines served
   pub after_is : after ≡ before ++ told
-  pub tells : flat_map answer_line told ≡ lane_text (lane_of old) served
+  pub tells : told ≡ lane_answers (lane_of old) served
   pub prints : (phase : ℕ) → flat_map (printed_line 0 phase (lane_of old)) served ≡ map (printed_of phase (lane_of old)) (reverse events)
   pub own : AllByRecursion (λ e. e.1.lane ≡ lane_of old) events
   pub run : HasRun old new events
@@ -43,7 +43,7 @@ pub record ServesAll (lines : List Line) (old new : Pass) (before after : List L
 pub record RunsLane (lines : List Line) (before : ℕ) (old new : Pass) (told : List LaneAnswer) : Type 0 where
   pub run : LaneRun
   pub are : AreServed lines run.served
-  pub tells : flat_map answer_line told ≡ lane_text (lane_of old) run.served
+  pub tells : told ≡ lane_answers (lane_of old) run.served
   pub is_run : IsRun 0 (lane_of old) run
   pub made : HasRun old new (reverse run.events)
   pub from : AllFrom before run.events

@@ -21,8 +21,8 @@ use Rattle.gor_steps.specs.declared.puts.PutAnswer.TheVariants as answer
 use Rattle.gor_text.specs.declared.workload.Line.{Line}
 use Rattle.gor_text.specs.declared.workload.Line.TheVariants.{Put, Get, Del, Flush}
 use Rattle.gor_text.specs.LineAnswers.{Act, LineAnswers, Flushes}
-use Rattle.gor_text.specs.Spelling.{answer_line, what_line}
-use Rattle.gor_text.specs.Transcripts.{act_text, printed_act}
+use Rattle.gor_text.specs.ActAnswers.{act_answer}
+use Rattle.gor_text.specs.Transcripts.{printed_act}
 use Rattle.gor_store.specs.declared.lines.PutTold.{PutTold}
 use Rattle.gor_store.specs.Stories.{printed_of}
 
@@ -58,9 +58,9 @@ pub record Prints (lane : ℕ) (acts : List Act) (events : List Numbered) : Type
   pub prints : (phase : ℕ) → flat_map (printed_act 0 phase lane) acts ≡ map (printed_of phase lane) (reverse events)
   pub own : AllByRecursion (λ e. e.1.lane ≡ lane) events
 
--- these acts are told by these answers
+-- these acts are told by just these answers, with every field of them
 abbrev pub Tells : ℕ → List Act → List LaneAnswer → Type 0
-Tells lane acts told = flat_map answer_line told ≡ flat_map (act_text lane) acts
+Tells lane acts told = told ≡ map (act_answer lane) acts
 
 -- The history that the pass has then seen is legal and begins with what it had seen; of its lane it has just the events that
 -- the lane made, these after those before. The newest stands first.
@@ -77,7 +77,7 @@ pub record IsTold (line : Line) (old new : Pass) (what : What) : Type 0 where
   pub acts : List Act
   pub events : List Numbered
   pub may : LineAnswers 1 line acts
-  pub tells : what_line (lane_of old) what ≡ flat_map (act_text (lane_of old)) acts
+  pub tells : Tells (lane_of old) acts (record { lane = lane_of old; what = what } ∷ [])
   pub prints : Prints (lane_of old) acts events
   pub run : HasRun old new events
 
@@ -86,7 +86,7 @@ pub record IsPutTold (name : List ℕ) (time word : ℕ) (old new : Pass) (put :
   pub acts : List Act
   pub events : List Numbered
   pub may : (rest : List Act) → FollowsDue put.due rest → LineAnswers 1 (Put name time word) (acts ++ rest)
-  pub tells : what_line (lane_of old) put.what ≡ flat_map (act_text (lane_of old)) acts
+  pub tells : Tells (lane_of old) acts (record { lane = lane_of old; what = put.what } ∷ [])
   pub prints : Prints (lane_of old) acts events
   pub run : HasRun old new events
 

@@ -6,8 +6,7 @@ use Rattle.gor_hall.specs.declared.pass.Pass.{Pass}
 use Rattle.gor_hall.specs.Passes.{lane_of, left_of_pass}
 use Rattle.gor_finish.specs.Made.{Numbered}
 use Rattle.gor_text.specs.LineAnswers.{LineAnswers}
-use Rattle.gor_text.specs.Spelling.{answer_line}
-use Rattle.gor_text.specs.Transcripts.{phase_text_from}
+use Rattle.gor_text.specs.ActAnswers.{phase_answers}
 use Rattle.gor_text.specs.declared.answer.LaneAnswer.{LaneAnswer}
 use Rattle.gor_text.specs.declared.workload.Line.{Line}
 use Rattle.gor_store.specs.declared.phases.Lane.{Lane}
@@ -55,8 +54,8 @@ module _ {V : Type 0} where
     pub runs : new.whole ≡ true → RunsLane lines before old.pass new.pass new.answers.items
     pub some : MadeFrom lines before old.pass new.pass
 
--- What the eight lanes of a phase did: each its lines, in order, behind all events before the phase. The answers are those of
--- lane 0 and then those of each next lane, as the text has them.
+-- What the eight lanes of a phase did: each its lines, in order, behind all events before the phase. The answers are just those
+-- that the acts of lane 0 are told by, and then those of each next lane.
 pub record RanPhase (phase : List (List Line)) (before : ℕ) (olds news : List Pass) (told : List LaneAnswer) : Type 0 where
   pub runs : List LaneRun
   pub eight : length runs ≡ 8
@@ -65,7 +64,7 @@ pub record RanPhase (phase : List (List Line)) (before : ℕ) (olds news : List 
   pub answered : AllByRecursion (λ r. AllByRecursion (λ s. LineAnswers 1 s.line s.acts) r.served) runs
   pub from : AllByRecursion (λ r. AllFrom before r.events) runs
   pub added : HaveAdded olds news (λ k. events_at k runs)
-  pub tells : flat_map answer_line told ≡ phase_text_from 0 (map (λ r. r.served) runs)
+  pub tells : told ≡ phase_answers 0 (map (λ r. r.served) runs)
 
 -- Where memory was wanting in some lane: the events that were made, each by its lane for a call of this lane's lines, all behind
 -- those before the phase.

@@ -12,3 +12,4 @@ pub mod Counted
 pub mod SameActs
 pub mod NoStops
 pub mod OneTexts
+pub mod ActAnswers

@@ -1,3 +1,4 @@
+pub mod ActAnswers
 pub mod Dumps
 pub mod Grammar
 pub mod Interleaved
