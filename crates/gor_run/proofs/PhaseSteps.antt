@@ -18,15 +18,14 @@ use Rattle.gor_text.specs.declared.answer.LaneAnswer.{LaneAnswer}
 use Rattle.gor_text.specs.declared.workload.Line.{Line}
 use Rattle.gor_text.proofs.Interleavings.{all-append}
 use Rattle.gor_outside.specs.Causes.{Rose}
-use Rattle.gor_store.specs.LineCalls.{IsCallOf, AreBy}
-use Rattle.gor_store.specs.Lanes.{AreTaken}
+use Rattle.gor_store.specs.LineParts.{ArePart}
 use Rattle.gor_store.specs.Phases.{RanPhase, RanInPart, lines_at}
 use Rattle.gor_store.specs.Sessions.{HaveServed}
 use Rattle.gor_store.specs.Stores.{HasLeft, HasMadeNothing, IsAtRest, IsSameStore, events_of, lines_of_lanes, passes_of}
 use Rattle.gor_store.specs.Stories.{AllFrom, AreRuns, LaneRun, count_all, events_at, numbers_of, served_in}
 use Rattle.gor_store.specs.Works.{HaveAdded, nothing}
 use Rattle.gor_store.specs.declared.store.Store.{Store}
-use Rattle.gor_store.proofs.LineCalls.{served_by}
+use Rattle.gor_store.proofs.LineParts.{none_part, whole_part}
 use Rattle.gor_store.proofs.StoryLists.{all_mapped}
 use Rattle.gor_store.proofs.Works.{work_starts, phase_is_done, last_is_done, work_is_counted}
 use Rattle.gor_run.specs.Outputs.{AppendsPart, AppendsUntil}
@@ -162,32 +161,30 @@ events_past k [] past = refl
 events_past zero (r ∷ runs) past = absurd (omega (arith, past))
 events_past (suc k) (r ∷ runs) past = events_past k runs (omega (arith, past))
 
--- the events of each lane are of calls of its lines
-lanes_by : (lane : ℕ) (runs : List LaneRun) → AreRuns 0 lane runs → AllByRecursion (λ r. AllByRecursion (λ (s : Served). LineAnswers 1 s.line s.acts) r.served) runs
-    → AllByRecursion AreTaken (map (λ (r : LaneRun). map (λ (s : Served). s.line) r.served) runs)
-    → (k : ℕ) → AreBy (lane + k) (IsCallOf (lines_at (map (λ (r : LaneRun). map (λ (s : Served). s.line) r.served) runs) k)) (events_at k runs)
-lanes_by lane [] are answered taken k = tt
-lanes_by lane (r ∷ runs) are answered taken zero =
+-- each lane answered all its lines
+lanes_part : (lane : ℕ) (runs : List LaneRun) → AreRuns 0 lane runs → AllByRecursion (λ r. AllByRecursion (λ (s : Served). LineAnswers 1 s.line s.acts) r.served) runs
+    → (k : ℕ) → ArePart (lane + k) (lines_at (map (λ (r : LaneRun). map (λ (s : Served). s.line) r.served) runs) k) (events_at k runs)
+lanes_part lane [] are answered k = none_part (lane + k) []
+lanes_part lane (r ∷ runs) are answered zero =
     let lines = map (λ (s : Served). s.line) r.served in
-    subst (λ (l : ℕ). AreBy l (IsCallOf lines) r.events) (omega arith) (served_by lines lane r.served r.events taken.0 refl answered.0 (are.0.prints 0) are.0.own)
-lanes_by lane (r ∷ runs) are answered taken (suc k) =
-    subst (λ (l : ℕ). AreBy l (IsCallOf (lines_at (map (λ (q : LaneRun). map (λ (s : Served). s.line) q.served) runs) k)) (events_at k runs)) (omega arith)
-    (lanes_by (lane + 1) runs are.1 answered.1 taken.1 k)
+    subst (λ (l : ℕ). ArePart l lines r.events) (omega arith) (whole_part lane lines r (refl, answered.0) are.0)
+lanes_part lane (r ∷ runs) are answered (suc k) =
+    subst (λ (l : ℕ). ArePart l (lines_at (map (λ (q : LaneRun). map (λ (s : Served). s.line) q.served) runs) k) (events_at k runs)) (omega arith)
+    (lanes_part (lane + 1) runs are.1 answered.1 k)
 
-phase_by : (lanes : List (List Line)) (runs : List LaneRun) → AreRuns 0 0 runs → map (λ (r : LaneRun). map (λ (s : Served). s.line) r.served) runs ≡ lanes
-    → AllByRecursion (λ r. AllByRecursion (λ (s : Served). LineAnswers 1 s.line s.acts) r.served) runs → AllByRecursion AreTaken lanes
-    → (k : ℕ) → AreBy k (IsCallOf (lines_at lanes k)) (events_at k runs)
-phase_by lanes runs are served answered taken k =
-    subst (λ (l : ℕ). AreBy l (IsCallOf (lines_at lanes k)) (events_at k runs)) (omega arith)
-    (subst (λ (ls : List (List Line)). AreBy (0 + k) (IsCallOf (lines_at ls k)) (events_at k runs)) served (lanes_by 0 runs are answered (subst (AllByRecursion AreTaken) (sym served) taken) k))
+phase_part : (lanes : List (List Line)) (runs : List LaneRun) → AreRuns 0 0 runs → map (λ (r : LaneRun). map (λ (s : Served). s.line) r.served) runs ≡ lanes
+    → AllByRecursion (λ r. AllByRecursion (λ (s : Served). LineAnswers 1 s.line s.acts) r.served) runs → (k : ℕ) → ArePart k (lines_at lanes k) (events_at k runs)
+phase_part lanes runs are served answered k =
+    subst (λ (l : ℕ). ArePart l (lines_at lanes k) (events_at k runs)) (omega arith)
+    (subst (λ (ls : List (List Line)). ArePart (0 + k) (lines_at ls k) (events_at k runs)) served (lanes_part 0 runs are answered k))
 
-pub ran_in_part : (lanes : List (List Line)) (before : ℕ) (olds news : List Pass) (told : List LaneAnswer) → AllByRecursion AreTaken lanes → RanPhase lanes before olds news told → RanInPart lanes before olds news
-ran_in_part lanes before olds news told taken r = record {
+pub ran_in_part : (lanes : List (List Line)) (before : ℕ) (olds news : List Pass) (told : List LaneAnswer) → RanPhase lanes before olds news told → RanInPart lanes before olds news
+ran_in_part lanes before olds news told r = record {
   more = λ k. events_at k r.runs;
   added = r.added;
   from = λ k. events_from before k r.runs r.from;
   eight = λ k past. events_past k r.runs (omega (arith, past, r.eight));
-  of = phase_by lanes r.runs r.are r.served r.answered taken;
+  of = phase_part lanes r.runs r.are r.served r.answered;
 }
 
 -- ---- the loop over phases

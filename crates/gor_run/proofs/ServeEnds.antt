@@ -1,4 +1,6 @@
 -- How a run ends on an open store: what its disk and its sink hold, by its status.
+use mathlib.Core.Logic.{dite}
+use native.Mathlib.Decide.{dec_le}
 use Rattle.std.proofs.lemmas.Bool.{eqb-true}
 use Rattle.std.proofs.lemmas.List.{append-nil}
 use Rattle.std.proofs.Common.{◌≡◌, ◌⊎◌, inl, inr, ℕ, ◌<◌, ◌≤◌, List, [], ◌∷◌, ◌++◌, length, Option, Some, None, Result, Ok, Err, Bool, true, false, cond, refl, sym, ap, subst, ◌∙◌, arith}
@@ -17,16 +19,14 @@ use Rattle.gor_text.specs.declared.workload.Line.{Line}
 use Rattle.gor_text.proofs.Interleavings.{all-map}
 use Rattle.gor_finish.specs.Flushes.{take_made, take_refused, stop_made}
 use Rattle.gor_store.specs.Closings.{ClosesBy, only_last}
-use Rattle.gor_store.specs.LineCalls.{IsCallOf, AreBy}
 use Rattle.gor_store.specs.Lanes.{AreTaken}
-use Rattle.gor_store.specs.Phases.{lines_at}
 use Rattle.gor_store.specs.Sessions.{HaveServed, SessionStands, SessionIsWhole}
 use Rattle.gor_store.specs.Shards.{BeginsFrom, HasClosed}
 use Rattle.gor_store.specs.Stores.{IsSameStore, ComeBack, HasFlushed, others_of, passes_of}
 use Rattle.gor_store.specs.Stories.{AllFrom, count_all, served_in}
-use Rattle.gor_store.specs.Works.{HaveAdded, IsAmong, nothing}
+use Rattle.gor_store.specs.Works.{HaveAdded, IsAmong, AreOfLane, nothing}
 use Rattle.gor_store.specs.declared.store.Store.{Store}
-use Rattle.gor_store.proofs.Sessions.{says_when}
+use Rattle.gor_store.proofs.Sessions.{says_when, others_none}
 use Rattle.gor_store.proofs.StoryLists.{all_front}
 use Rattle.gor_store.proofs.Works.{last_is_done, work_is_counted}
 use Rattle.gor_run.specs.Dumps.{CallsFirst}
@@ -78,13 +78,11 @@ whole_runs olds news phases text events h added from = refl
 
 -- ---- the events behind those of the phases
 
--- what is among two lists is among one of them
-among_both : (P Q : Event → Type 0) (xs ys : List Numbered) (e : Event) → AllByRecursion (λ x. P x.1) xs → AllByRecursion (λ y. Q y.1) ys → IsAmong (xs ++ ys) e → P e ⊎ Q e
-among_both P Q [] [] e ps qs among = absurd among
-among_both P Q [] (y ∷ ys) e ps qs (inl is) = inr (subst Q is qs.0)
-among_both P Q [] (y ∷ ys) e ps qs (inr more) = among_both P Q [] ys e ps qs.1 more
-among_both P Q (x ∷ xs) ys e ps qs (inl is) = inl (subst P is ps.0)
-among_both P Q (x ∷ xs) ys e ps qs (inr more) = among_both P Q xs ys e ps.1 qs more
+-- what is among some events is what each of them is
+among_all : (Q : Event → Type 0) (events : List Numbered) (e : Event) → AllByRecursion (λ x. Q x.1) events → IsAmong events e → Q e
+among_all Q [] e all among = absurd among
+among_all Q (x ∷ events) e all (inl is) = subst Q is all.0
+among_all Q (x ∷ events) e all (inr more) = among_all Q events e all.1 more
 
 -- those of lane 8 are those of a flush
 flushes_by : (stopped : Option ℕ) (events : List Numbered) → ClosesBy stopped events → AllByRecursion (λ (e : Numbered). IsOfLastFlush e.1) events
@@ -107,15 +105,17 @@ of_eight events k all = at (nat_eq k 8) where
   at true = all
   at false = tt
 
--- those of a lane are of its lines, or of the last flush
-besides : (lanes : List (List Line)) (more : ℕ → List Numbered) (events : List Numbered) → AllByRecursion (λ (e : Numbered). IsOfLastFlush e.1) events
-    → ((k : ℕ) → AreBy k (IsCallOf (lines_at lanes k)) (more k))
-    → (e : Event) → IsAmong (more e.lane ++ only_last events e.lane) e → IsOfLastFlush e ⊎ IsCallOf (lines_at lanes e.lane) e.call
-besides lanes more events flush of e among =
-    turned (among_both (λ (x : Event). (x.lane ≡ e.lane) × IsCallOf (lines_at lanes e.lane) x.call) IsOfLastFlush (more e.lane) (only_last events e.lane) e (of e.lane) (of_eight events e.lane flush) among) where
-      turned : ((e.lane ≡ e.lane) × IsCallOf (lines_at lanes e.lane) e.call) ⊎ IsOfLastFlush e → IsOfLastFlush e ⊎ IsCallOf (lines_at lanes e.lane) e.call
-      turned (inl own) = inr own.1
-      turned (inr is) = inl is
+-- those of no lane below 8 are of the last flush
+besides : (more : ℕ → List Numbered) (events : List Numbered) → AllByRecursion (λ (e : Numbered). IsOfLastFlush e.1) events → ((k : ℕ) → 8 ≤ k → more k ≡ [])
+    → (e : Event) → IsAmong (more e.lane ++ only_last events e.lane) e → (e.lane < 8) ⊎ IsOfLastFlush e
+besides more events flush eight e among = dite (dec_le 8 e.lane)
+    (λ past. inr (among_all IsOfLastFlush (only_last events e.lane) e (of_eight events e.lane flush)
+    (subst (λ (es : List Numbered). IsAmong (es ++ only_last events e.lane) e) (eight e.lane past) among)))
+    (λ low. inl (omega (arith, low)))
+
+-- below lane 8 they are those of the lane alone
+alone : (more : ℕ → List Numbered) (events : List Numbered) (k : ℕ) → k < 8 → more k ++ only_last events k ≡ more k
+alone more events k low = ap (λ (es : List Numbered). more k ++ es) (others_none events k low) ∙ append-nil (more k)
 
 -- ---- the end of a store
 
@@ -160,22 +160,24 @@ module _ {D : Type 0} (tells : Bool) (view : D → DiskView) (faults : D → ℕ
         same = whole.1 ∙ ap served_in (whole_runs (passes_of store) e.passes phases text e.events served e.added e.from);
       }
 
-  -- what came after the phases is of the lines of these lanes, or of the last flush
-  record InPart (phases : List (List (List Line))) (text : List ℕ) (lanes : List (List Line)) (now : D) : Type 0 where
+  -- what came after the phases is of the lines of these lanes up to some act, or of the last flush
+  record InPart (phases : List (List (List Line))) (text : List ℕ) (more : ℕ → List Numbered) (now : D) : Type 0 where
     held : HeldSession tells view faults slots first now phases text
-    of : AllByRecursion (λ e. IsOfLastFlush e ⊎ IsCallOf (lines_at lanes e.lane) e.call) held.told.later
+    in_order : (k : ℕ) → k < 8 → AreOfLane k (held.told.transcript.histories 0) held.told.later (more k)
+    of : AllByRecursion (λ e. (e.lane < 8) ⊎ IsOfLastFlush e) held.told.later
 
-  held_session : (phases : List (List (List Line))) (text : List ℕ) (lanes : List (List Line)) (more : ℕ → List Numbered) (stopped : Option ℕ) (disks : List D) → AllByRecursion (AllByRecursion AreTaken) phases
+  held_session : (phases : List (List (List Line))) (text : List ℕ) (more : ℕ → List Numbered) (stopped : Option ℕ) (disks : List D) → AllByRecursion (AllByRecursion AreTaken) phases
       → (e : HasEnded tells view faults store stopped disks) → (served : HaveServed (passes_of store) phases more text) → count_all served.runs ≤ sum_by (λ p. length (made p)) (passes_of store)
-      → ((k : ℕ) → AreBy k (IsCallOf (lines_at lanes k)) (more k)) → InPart phases text lanes e.disk
-  held_session phases text lanes more stopped disks taken e served counted of =
+      → ((k : ℕ) → 8 ≤ k → more k ≡ []) → InPart phases text more e.disk
+  held_session phases text more stopped disks taken e served counted eight =
       let start = start_of store.hall in
       let all = served_last (passes_of store) e.passes phases more text e.events served counted e.added e.from in
       let session = stands slots first e.disk start e.passes phases (λ k. more k ++ only_last e.events k) text begins taken all e.closed in
       record {
         held = record { start = start; history = e.closed.history; session = session.0; told = session.1 };
-        of = all-map (λ (x : Event). IsAmong (more x.lane ++ only_last e.events x.lane) x) (λ (x : Event). IsOfLastFlush x ⊎ IsCallOf (lines_at lanes x.lane) x.call)
-            (λ x among. besides lanes more e.events (flushes_by stopped e.events e.closes) of x among) session.1.later session.3;
+        in_order = λ k low. subst (AreOfLane k (session.1.transcript.histories 0) session.1.later) (alone more e.events k low) (session.4 k);
+        of = all-map (λ (x : Event). IsAmong (more x.lane ++ only_last e.events x.lane) x) (λ (x : Event). (x.lane < 8) ⊎ IsOfLastFlush x)
+            (λ x among. besides more e.events (flushes_by stopped e.events e.closes) eight x among) session.1.later session.3;
       }
 
   rose_so : (phases : List (List (List Line))) (text : List ℕ) (now : D) → HeldWhole tells view faults slots first now phases text (Some 0) → disk.Rose (faults first) (faults now)
@@ -207,7 +209,7 @@ module _ {D : Type 0} (tells : Bool) (view : D → DiskView) (faults : D → ℕ
         record { run = w.0.run; rest = w.0.rest; parts = w.0.parts; text = w.0.text; whole = whole.held; appended = inr (subst (AppendsUntil held grown) (sym whole.same) w.0.appended, w.1) },
       )
   ends_by (Err fault.NoMemory) stopped phases held grown before after disks taken w e =
-      let part = held_session w.0.run w.0.text w.0.lanes w.0.more stopped disks (front_taken w.0.run (w.0.lanes ∷ w.0.rest) phases w.0.parts taken) e w.0.served w.0.counted w.0.of in (
+      let part = held_session w.0.run w.0.text w.0.more stopped disks (front_taken w.0.run (w.0.lanes ∷ w.0.rest) phases w.0.parts taken) e w.0.served w.0.counted w.0.eight in (
         record {
           run = w.0.run;
           lanes = w.0.lanes;
@@ -215,6 +217,9 @@ module _ {D : Type 0} (tells : Bool) (view : D → DiskView) (faults : D → ℕ
           parts = w.0.parts;
           text = w.0.text;
           part = part.held;
+          more = w.0.more;
+          of = w.0.of;
+          in_order = part.in_order;
           besides = part.of;
           appended = w.0.appended;
         },

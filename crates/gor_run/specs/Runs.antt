@@ -1,8 +1,9 @@
 -- What a run reads, what it writes, and what it leaves on its disks.
-use Rattle.std.specs.Prelude.{◌≡◌, ◌⊎◌, ℕ, ◌≤◌, List, [], ◌∷◌, ◌++◌, length, Option, Some, None, Bool, IsTrue, ⊤}
+use Rattle.std.specs.Prelude.{◌≡◌, ◌⊎◌, ℕ, ◌<◌, ◌≤◌, List, [], ◌∷◌, ◌++◌, length, Option, Some, None, Bool, IsTrue, ⊤}
 use Rattle.std.specs.List.{AllByRecursion, list_all}
 use Rattle.std.specs.Io.KnownBytes.{Appends}
 use Rattle.gor_disk.specs.Disk.{DiskView}
+use Rattle.gor_finish.specs.Made.{Numbered}
 use Rattle.gor_outside.specs.Causes.{Rose}
 use Rattle.gor_model.specs.declared.start.Start.{Start}
 use Rattle.gor_model.specs.declared.event.Call.{Call}
@@ -16,11 +17,12 @@ use Rattle.gor_text.specs.Grammar.{lines_of}
 use Rattle.gor_text.specs.LineAnswers.{LineAnswers}
 use Rattle.gor_text.specs.Transcripts.{Transcript}
 use Rattle.gor_text.specs.OneText.{IsOfOneLane, NeverStops}
-use Rattle.gor_store.specs.LineCalls.{IsCallOf}
+use Rattle.gor_store.specs.LineParts.{ArePart}
 use Rattle.gor_store.specs.Phases.{lines_at}
 use Rattle.gor_store.specs.Sessions.{Session, SessionEnds, IsToldBy, IsToldWhole}
 use Rattle.gor_store.specs.Shards.{BeginsFrom}
 use Rattle.gor_store.specs.Stores.{WasRefused}
+use Rattle.gor_store.specs.Works.{AreOfLane}
 use Rattle.gor_run.specs.Inputs.{most_input, IsWhole}
 use Rattle.gor_run.specs.Words.{slots_of_run}
 use Rattle.gor_run.specs.Outputs.{AppendsUntil}
@@ -108,8 +110,9 @@ module _ {D : Type 0} (tells : Bool) (view : D → DiskView) (faults : D → ℕ
     pub whole : HeldWhole slots disk now run text None
     pub appended : AppendsUntil held written whole.told.told.transcript.served
 
-  -- Memory was wanting in a phase: the sink grew by the text of those before it, and besides their events the history has only
-  -- such of lines of this phase, and those of a flush of lane 8, which add no change.
+  -- Memory was wanting in a phase: the sink grew by the text of those before it. Behind their events the history has, lane by lane
+  -- and in order, just those of the first lines of this phase, each answered, and of a first part of what may answer the next; and
+  -- those of a flush of lane 8, which add no change.
   pub record EndsInPart (slots : ℕ) (phases : List (List (List Line))) (held written : Option (List ℕ)) (disk now : D) : Type 0 where
     pub run : List (List (List Line))
     pub lanes : List (List Line)
@@ -117,7 +120,10 @@ module _ {D : Type 0} (tells : Bool) (view : D → DiskView) (faults : D → ℕ
     pub parts : phases ≡ run ++ lanes ∷ rest
     pub text : List ℕ
     pub part : HeldSession slots disk now run text
-    pub besides : AllByRecursion (λ e. IsOfLastFlush e ⊎ IsCallOf (lines_at lanes e.lane) e.call) part.told.later
+    pub more : ℕ → List Numbered
+    pub of : (k : ℕ) → ArePart k (lines_at lanes k) (more k)
+    pub in_order : (k : ℕ) → k < 8 → AreOfLane k (part.told.transcript.histories 0) part.told.later (more k)
+    pub besides : AllByRecursion (λ e. (e.lane < 8) ⊎ IsOfLastFlush e) part.told.later
     pub appended : Appends held written text
 
   -- ---- the same of a run, whose phases the source gave

@@ -14,7 +14,7 @@ use Rattle.gor_text.specs.declared.answer.LaneAnswer.{LaneAnswer}
 use Rattle.gor_text.specs.declared.workload.Line.{Line}
 use Rattle.gor_text.specs.Spelling.{answer_line}
 use Rattle.gor_store.specs.Closings.{ClosesBy, only_last}
-use Rattle.gor_store.specs.LineCalls.{IsCallOf, AreBy}
+use Rattle.gor_store.specs.LineParts.{ArePart}
 use Rattle.gor_store.specs.Phases.{RanPhase, lines_at}
 use Rattle.gor_store.specs.Sessions.{HaveServed}
 use Rattle.gor_store.specs.Shards.{HasClosed}
@@ -52,7 +52,8 @@ pub record WroteInPart (passes : List Pass) (phases : List (List (List Line))) (
   pub served : HaveServed passes run nothing text
   pub appended : AppendsUntil held written (served_in served.runs)
 
--- memory was wanting in a phase: the sink grew by the text of those before it, and some events of its lines were made behind them
+-- memory was wanting in a phase: the sink grew by the text of those before it, and behind them each lane made the events of its
+-- lines up to some act
 pub record WroteUntil (passes : List Pass) (phases : List (List (List Line))) (held written : Option (List ℕ)) : Type 0 where
   pub run : List (List (List Line))
   pub lanes : List (List Line)
@@ -62,7 +63,7 @@ pub record WroteUntil (passes : List Pass) (phases : List (List (List Line))) (h
   pub more : ℕ → List Numbered
   pub served : HaveServed passes run more text
   pub eight : (k : ℕ) → 8 ≤ k → more k ≡ []
-  pub of : (k : ℕ) → AreBy k (IsCallOf (lines_at lanes k)) (more k)
+  pub of : (k : ℕ) → ArePart k (lines_at lanes k) (more k)
   pub counted : count_all served.runs ≤ sum_by (λ p. length (made p)) passes
   pub appended : Appends held written text
 

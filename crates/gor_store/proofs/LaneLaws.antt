@@ -12,7 +12,6 @@ use Rattle.gor_hall.specs.Halls.{IsPassOf}
 use Rattle.gor_hall.specs.Passes.{view, seen, made, held, lane_of, left_of_pass}
 use Rattle.gor_hall.specs.Steps.{HasLooked}
 use Rattle.gor_finish.specs.Made.{Numbered}
-use Rattle.gor_text.proofs.Interleavings.{all-map}
 use Rattle.gor_text.specs.LineAnswers.{LineAnswers}
 use Rattle.gor_text.specs.ActAnswers.{act_answer, lane_answers}
 use Rattle.gor_text.specs.Transcripts.{Served, printed_line, printed_act}
@@ -21,11 +20,11 @@ use Rattle.gor_text.specs.declared.workload.Line.{Line}
 use Rattle.gor_text.specs.declared.workload.Line.TheVariants.{Put, Get, Del, Flush, Finish, Merge}
 use Rattle.gor_store.specs.Stories.{AllFrom, printed_of}
 use Rattle.gor_store.specs.Lines.{IsResting, RestsAgain, HasRun, HasTold, ServesLine, Prints, is_taken, need}
-use Rattle.gor_store.specs.LineCalls.{Calls, IsCallOf, AreBy, MadeBy, MadeSome}
+use Rattle.gor_store.specs.LineParts.{ArePart, HasBegun, RanUntil}
 use Rattle.gor_store.specs.Lanes.{AreTaken, needs, ServesAll, RunsLane, MadeFrom}
-use Rattle.gor_store.proofs.LineCalls.{call_front, call_back, served_by}
-use Rattle.gor_store.proofs.RunLaws.{runs_on, some_on, some_wider, all_joined}
-use Rattle.gor_store.proofs.StoryLists.{all_reverse, all_front}
+use Rattle.gor_store.proofs.LineParts.{ran_until}
+use Rattle.gor_store.proofs.RunLaws.{runs_on, all_joined}
+use Rattle.gor_store.proofs.StoryLists.{all_reverse}
 use Rattle.gor_store.proofs.Works.{added_newest_first, added_is_later}
 
 -- ---- a look
@@ -92,14 +91,6 @@ served_more lines line old mid new before between after same a s =
       run = runs_on old mid new a.events t.events same a.run t.run;
     }
 
--- they made their events by their own calls
-pub all_by : (lines : List Line) (old new : Pass) (before after : List LaneAnswer) → AreTaken lines → (a : ServesAll lines old new before after) → AreBy (lane_of old) (IsCallOf lines) a.events
-all_by lines old new before after taken a =
-    let l = lane_of old in
-    subst (AreBy l (IsCallOf lines)) (reverse-reverse a.events)
-    (all_reverse (λ (e : Numbered). (e.1.lane ≡ l) × IsCallOf lines e.1.call) (reverse a.events)
-    (served_by lines l a.served (reverse a.events) taken a.are.0 a.are.1 (a.prints 0) (all_reverse (λ (e : Numbered). e.1.lane ≡ l) a.events a.own)))
-
 -- ---- what lines may have to have left
 
 need_least : (line : Line) → 16388 ≤ need line
@@ -144,7 +135,7 @@ runs_lane lines before old mid new told same lane own long waited a =
 
 -- where memory was wanting
 pub made_from : (lines : List Line) (before : ℕ) (old mid new : Pass) → lane_of mid ≡ lane_of old → lane_of new ≡ lane_of mid → numbers (lane_of mid) (seen mid) ≡ made mid → before ≤ length (seen mid)
-    → HasRun old mid [] → MadeBy (IsCallOf lines) mid new → MadeFrom lines before old new
+    → HasRun old mid [] → RanUntil lines mid new → MadeFrom lines before old new
 made_from lines before old mid new same lane own long waited more =
     let events = more.0 in
     let run : HasRun mid new events = more.1 in
@@ -154,7 +145,7 @@ made_from lines before old mid new same lane own long waited more =
       events = events;
       run = subst (HasRun old new) (append-nil events) (runs_on old mid new [] events same waited run);
       from = subst (AllFrom before) (reverse-reverse events) (all_reverse (λ (e : Numbered). before ≤ e.0) (reverse events) high);
-      of = subst (λ (l : ℕ). AreBy l (IsCallOf lines) events) same more.2;
+      of = subst (λ (l : ℕ). ArePart l lines (reverse events)) same more.2;
     }
 
 -- ---- the next line
@@ -173,17 +164,10 @@ module _ (lines : List Line) (i : ℕ) (line : Line) (low : i < length lines) (i
       (served_more (take i lines) line old mid new before between after same a s)
 
   -- what was made by lines that were answered, and by one that was not
-  pub served_some : (old mid new : Pass) (before between : List LaneAnswer) → AreTaken lines → lane_of mid ≡ lane_of old → ServesAll (take i lines) old mid before between → MadeSome line mid new
-      → MadeBy (IsCallOf lines) old new
-  served_some old mid new before between taken same a more =
-      let rest = line ∷ drop (i + 1) lines in
-      let whole : take i lines ++ rest ≡ lines = ap (λ (z : List Line). take i lines ++ z) (sym here) ∙ take-append-drop i lines in
-      let first : AreTaken (take i lines) = all_front (λ (l : Line). is_taken l ≡ true) (take i lines) rest (subst AreTaken (sym whole) taken) in
-      subst (λ (ls : List Line). MadeBy (IsCallOf ls) old new) whole
-      (some_on (IsCallOf (take i lines ++ rest)) old mid new a.events same a.run
-      (all-map (λ (e : Numbered). (e.1.lane ≡ lane_of old) × IsCallOf (take i lines) e.1.call) (λ (e : Numbered). (e.1.lane ≡ lane_of old) × IsCallOf (take i lines ++ rest) e.1.call)
-      (λ e by. (by.0, call_front (take i lines) rest e.1.call by.1)) a.events (all_by (take i lines) old mid before between first a))
-      (some_wider (Calls line) (IsCallOf (take i lines ++ rest)) mid new (λ c is. call_back (take i lines) rest c (inl is)) more))
+  pub served_some : (old mid new : Pass) (before between : List LaneAnswer) → lane_of mid ≡ lane_of old → ServesAll (take i lines) old mid before between → HasBegun line mid new → RanUntil lines old new
+  served_some old mid new before between same a b =
+      let whole : take i lines ++ line ∷ drop (i + 1) lines ≡ lines = ap (λ (z : List Line). take i lines ++ z) (sym here) ∙ take-append-drop i lines in
+      ran_until (take i lines) line (drop (i + 1) lines) lines old mid new before between whole same a b
 
   pub left_next : (left less : ℕ) → needs (drop i lines) ≤ left → left ≤ less + 3 → needs (drop (i + 1) lines) ≤ less
   left_next left less all few = (next_need line (drop (i + 1) lines) left less (subst (λ (z : List Line). needs z ≤ left) here all) few).1

@@ -13,9 +13,10 @@ use Rattle.gor_hall.specs.Closings.{IsWholeHistory}
 use Rattle.gor_text.proofs.Interleavings.{all-map}
 use Rattle.gor_finish.specs.Made.{Numbered, StandsIn}
 use Rattle.gor_store.specs.Stories.{LaneRun, events_of_lane, numbers_of, HistoryBegins}
-use Rattle.gor_store.specs.Works.{IsWork, IsAmong, LaterIsLast}
+use Rattle.gor_store.specs.Works.{IsWork, IsAmong, LaterIsLast, LaterIsInOrder}
 use Rattle.gor_store.proofs.StoryLists.{all_reverse, all_mapped, all_back, heads, tails, same_tails}
 use Rattle.gor_store.proofs.StoryNumbers.{all_under, later_numbers}
+use Rattle.gor_store.proofs.StoryLanes.{lane_added}
 use Rattle.gor_store.proofs.Works.{holds}
 
 -- a number in a list, where all that stand behind a front are below it, is in the front
@@ -61,3 +62,8 @@ module _ (shard : ℕ) (start : Start) (passes : List Pass) (h : History) (phase
 
 pub later_is_last : LaterIsLast
 later_is_last shard start passes h phases last w whole g = all_last shard start passes h phases last w whole g [] g.later refl
+
+pub later_is_in_order : LaterIsInOrder
+later_is_in_order shard start passes h phases last w whole g lane phase =
+    lane_added phase lane h g.printed g.later (last lane) ([], g.whole) (all_back (StandsIn h) (events_of_lane lane phases) (last lane) (holds shard start passes h phases last w whole lane).1)
+    (ap (numbers lane) g.whole ∙ g.last_are lane)

@@ -11,8 +11,8 @@ pub mod Stories
 pub mod Works
 pub mod LastEvents
 pub mod WorkedStory
-pub mod LineCalls
 pub mod RunLaws
+pub mod LineParts
 pub mod LineLaws
 pub mod LaneLaws
 pub mod OpenShards

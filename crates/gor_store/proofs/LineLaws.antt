@@ -31,12 +31,11 @@ use Rattle.gor_text.specs.declared.answer.What.TheVariants as what_
 use Rattle.gor_text.specs.declared.workload.Line.{Line}
 use Rattle.gor_text.specs.declared.workload.Line.TheVariants as line_
 use Rattle.gor_text.specs.LineAnswers.{Act, Made, Refused, LineAnswers, Flushes, FollowsPut, EndsTake}
-use Rattle.gor_store.specs.Lines.{IsResting, RestsAgain, HasRun, Prints, IsTold, IsPutTold, IsFlushTold, ServesLine, FollowsDue, is_taken, is_due, flush_told}
-use Rattle.gor_store.specs.LineCalls.{IsFlushCall, Calls, AreBy, MadeBy, MadeSome}
+use Rattle.gor_store.specs.Lines.{IsResting, RestsAgain, HasRun, Prints, IsTold, IsPutTold, IsFlushTold, HasTold, ServesLine, FollowsDue, is_due, flush_told}
+use Rattle.gor_store.specs.LineParts.{AreBegun, HasActed, HasFlushedOnce, HasBegun}
 use Rattle.gor_store.specs.declared.lines.PutTold.{PutTold}
-use Rattle.gor_store.proofs.LineCalls.{ActBy, line_acts, acts_by}
-use Rattle.gor_store.proofs.RunLaws.{no_run, none_run, one_run, flush_run, runs_on, none_made, some_on, some_wider, prints_none, prints_one, prints_on}
-use Rattle.gor_store.proofs.StoryLists.{all_front}
+use Rattle.gor_store.proofs.LineParts.{none_begun}
+use Rattle.gor_store.proofs.RunLaws.{no_run, none_run, one_run, flush_run, runs_on, prints_none, prints_one, prints_on}
 
 -- one answer alone
 abbrev told_one : ℕ → What → List LaneAnswer
@@ -226,28 +225,32 @@ serves_due name time word old mid new put lane before between after is same t du
       },
     )
 
--- whatever is told of it, a flush made its events
-pub flush_some : (old new : Pass) (r : FlushReply) → IsFlush old r new → MadeBy IsFlushCall old new
-flush_some old new (flushed.Flushed take taken done changes) f =
-    let events : List Numbered = (done, done_made (lane_of old) f.0 changes) ∷ (take, take_made (lane_of old) taken) ∷ [] in
-    (events, flush_run old new events f.1, ((refl, tt), ((refl, tt), tt)))
-flush_some old new (flushed.Stopped number) f =
-    let events : List Numbered = (number, take_refused (lane_of old)) ∷ [] in
-    (events, flush_run old new events f, ((refl, tt), tt))
-flush_some old new (flushed.Fault take taken stop) f =
-    let events : List Numbered = (stop, stop_made (lane_of old)) ∷ (take, take_made (lane_of old) taken) ∷ [] in
-    (events, flush_run old new events f, ((refl, tt), ((refl, tt), tt)))
+-- ---- where memory is wanting
+
+-- whatever is told of them, the events stand
+told_acted : (old new : Pass) (before after : List LaneAnswer) (acts : List Act) → HasTold old new before after acts → HasActed old new acts
+told_acted old new before after acts t = record { events = t.events; prints = t.prints; run = t.run }
+
+pub flush_some : (old new : Pass) (r : FlushReply) → IsFlush old r new → HasFlushedOnce old new
+flush_some old new r f =
+    let told = flush_told (lane_of old) r in
+    let t = told_flush old new r (lane_of old) [] told refl f refl in
+    (t.0, t.1, told_acted old new [] told t.0 t.2)
+
+-- all acts of a line were made
+whole_begun : (line : Line) (acts : List Act) → LineAnswers 1 line acts → AreBegun (line ∷ []) acts
+whole_begun line acts may = inr ([], subst (LineAnswers 1 line) (sym (append-nil acts)) may)
+
+pub told_some : (line : Line) (old new : Pass) (what : What) → IsTold line old new what → HasBegun line old new
+told_some line old new what t = (t.acts, whole_begun line t.acts t.may, record { events = t.events; prints = t.prints; run = t.run })
 
 -- whatever its fault, a get made its event or none
-pub get_some : {V : Type 0} (shard : Hall V) (old new : Pass) (name spelt : List ℕ) (from to : ℕ) (f : GetFault) → IsResting shard old → spelt ≡ name → GetRefused old (key_of spelt) from to new f
-    → MadeSome (line_.Get name from to) old new
-get_some shard old new name spelt from to (get.Range first last) rests same f = subst (λ (p : Pass). MadeSome (line_.Get name from to) old p) (sym f.3) (none_made (Calls (line_.Get name from to)) old old (no_run shard old rests))
-get_some shard old new name spelt from to get.NoMemory rests same f = ⊎_elim (λ none. none_made (Calls (line_.Get name from to)) old new (none_run shard old new rests none))
-    (λ made. (
-      (made.0, said (lane_of old) made.2.slot (call.Get (key_of spelt) from to) (reply.Points made.1)) ∷ [],
-      one_run old new made.0 (call.Get (key_of spelt) from to) (reply.Points made.1) made.2,
-      ((refl, ap (λ (k : List ℕ). call.Get (key_of k) from to) same), tt),
-    ))
+pub get_some : {V : Type 0} (shard : Hall V) (old new : Pass) (name spelt : List ℕ) (from to : ℕ) (f : GetFault) → IsResting shard old → IsName name → spelt ≡ name → GetRefused old (key_of spelt) from to new f
+    → HasBegun (line_.Get name from to) old new
+get_some shard old new name spelt from to (get.Range first last) rests named same f =
+    subst (λ (p : Pass). HasBegun (line_.Get name from to) old p) (sym f.3) (none_begun (line_.Get name from to) old old (no_run shard old rests))
+get_some shard old new name spelt from to get.NoMemory rests named same f = ⊎_elim (λ none. none_begun (line_.Get name from to) old new (none_run shard old new rests none))
+    (λ made. told_some (line_.Get name from to) old new (what_.Event 0 made.0 (reply.Points made.1)) (told_get name spelt from to old new made.0 (reply.Points made.1) same named f.0 made.2))
     f.1
 
 -- ---- what is left after two calls
@@ -263,26 +266,35 @@ told_shard shard number p rests apart = told_refused (line_.Flush number) p p re
 pub serves_flush : (number : ℕ) (old new : Pass) (before after : List LaneAnswer) → number ≡ 0 → IsFlushTold old new before after → ServesLine (line_.Flush number) old new before after
 serves_flush number old new before after is f = (f.0, LineAnswers.flush number f.0 (subst (λ (z : ℕ). z < 1) (sym is) (omega arith)) (subst (λ (z : ℕ). Flushes z f.0) (sym is) f.1), f.2)
 
--- what was told made events by calls of its line
-pub told_some : (line : Line) (old new : Pass) (what : What) → is_taken line ≡ true → IsTold line old new what → MadeSome line old new
-told_some line old new what taken t = (t.events, t.run, acts_by (Calls line) (lane_of old) t.acts t.events (line_acts line t.acts taken t.may) t.prints)
+-- whatever is told of it, such a flush made all acts of its line
+pub flush_begun : (number : ℕ) (old new : Pass) → number ≡ 0 → HasFlushedOnce old new → HasBegun (line_.Flush number) old new
+flush_begun number old new is f = (
+  f.0,
+  whole_begun (line_.Flush number) f.0 (LineAnswers.flush number f.0 (subst (λ (z : ℕ). z < 1) (sym is) (omega arith)) (subst (λ (z : ℕ). Flushes z f.0) (sym is) f.1)),
+  f.2,
+)
 
 -- some acts that may follow a put
 follows_some : (due : Bool) → (rest : List Act) × FollowsDue due rest
 follows_some true = (Made 0 0 call.Take reply.Stopped ∷ [], Flushes.stopped 0)
 follows_some false = ([], refl)
 
-put_by : (name : List ℕ) (time word : ℕ) (old new : Pass) (put : PutTold) (t : IsPutTold name time word old new put) → AreBy (lane_of old) (Calls (line_.Put name time word)) t.events
-put_by name time word old new put t =
-    let line = line_.Put name time word in
-    let f = follows_some put.due in
-    acts_by (Calls line) (lane_of old) t.acts t.events (all_front (ActBy (Calls line)) t.acts f.0 (line_acts line (t.acts ++ f.0) refl (t.may f.0 f.1))) t.prints
+-- a put that was not told
+pub put_some : (name : List ℕ) (time word : ℕ) (old new : Pass) (put : PutTold) → IsPutTold name time word old new put → HasBegun (line_.Put name time word) old new
+put_some name time word old new put t =
+    let more = follows_some put.due in
+    (t.acts, inr (more.0, t.may more.0 more.1), record { events = t.events; prints = t.prints; run = t.run })
 
-pub put_some : (name : List ℕ) (time word : ℕ) (old new : Pass) (put : PutTold) → IsPutTold name time word old new put → MadeSome (line_.Put name time word) old new
-put_some name time word old new put t = (t.events, t.run, put_by name time word old new put t)
-
-pub put_some_on : (name : List ℕ) (time word : ℕ) (old mid new : Pass) (put : PutTold) → lane_of mid ≡ lane_of old → IsPutTold name time word old mid put → MadeBy IsFlushCall mid new
-    → MadeSome (line_.Put name time word) old new
-put_some_on name time word old mid new put lane t more =
-    let line = line_.Put name time word in
-    some_on (Calls line) old mid new t.events lane t.run (put_by name time word old mid put t) (some_wider IsFlushCall (Calls line) mid new (λ c is. inr is) more)
+-- a put that was due, and whose flush was not told
+pub put_some_on : (name : List ℕ) (time word : ℕ) (old mid new : Pass) (put : PutTold) → lane_of mid ≡ lane_of old → IsPutTold name time word old mid put → put.due ≡ true → HasFlushedOnce mid new
+    → HasBegun (line_.Put name time word) old new
+put_some_on name time word old mid new put same t due f =
+    let acted : HasActed mid new f.0 = f.2 in (
+      t.acts ++ f.0,
+      whole_begun (line_.Put name time word) (t.acts ++ f.0) (t.may f.0 (subst (λ (b : Bool). FollowsDue b f.0) (sym due) f.1)),
+      record {
+        events = acted.events ++ t.events;
+        prints = prints_on (lane_of old) t.acts f.0 t.events acted.events t.prints (subst (λ (l : ℕ). Prints l f.0 acted.events) same acted.prints);
+        run = runs_on old mid new t.events acted.events same t.run acted.run;
+      },
+    )

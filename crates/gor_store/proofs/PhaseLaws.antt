@@ -20,28 +20,27 @@ use Rattle.gor_store.specs.declared.phases.Lane.{Lane}
 use Rattle.gor_store.specs.Stories.{LaneRun, IsRun, AreRuns, AllFrom, events_at}
 use Rattle.gor_store.specs.Works.{HasAdded}
 use Rattle.gor_store.specs.Lines.{HasRun, RestsAgain}
-use Rattle.gor_store.specs.LineCalls.{IsCallOf, AreBy}
-use Rattle.gor_store.specs.Lanes.{AreTaken, RunsLane, MadeFrom}
+use Rattle.gor_store.specs.LineParts.{ArePart}
+use Rattle.gor_store.specs.Lanes.{RunsLane, MadeFrom}
 use Rattle.gor_store.specs.Phases.{lines_at, passes_of, answers_of, IsReady, AreReady, HasWorked, HaveTold, HaveRested, RanPhase, RanInPart}
-use Rattle.gor_store.proofs.LineCalls.{served_by}
+use Rattle.gor_store.proofs.LineParts.{none_part, whole_part}
 use Rattle.gor_store.proofs.StoryLists.{all_reverse}
 use Rattle.gor_store.proofs.Works.{added_newest_first}
 
 -- ---- one lane
 
-made_by_run : (lines : List Line) (before : ℕ) (old new : Pass) (told : List LaneAnswer) → AreTaken lines → RunsLane lines before old new told → MadeFrom lines before old new
-made_by_run lines before old new told taken r = record {
+made_by_run : (lines : List Line) (before : ℕ) (old new : Pass) (told : List LaneAnswer) → RunsLane lines before old new told → MadeFrom lines before old new
+made_by_run lines before old new told r = record {
   events = reverse r.run.events;
   run = r.made;
   from = all_reverse (λ (e : Numbered). before ≤ e.0) r.run.events r.from;
-  of = all_reverse (λ (e : Numbered). (e.1.lane ≡ lane_of old) × IsCallOf lines e.1.call) r.run.events
-      (served_by lines (lane_of old) r.run.served r.run.events taken r.are.0 r.are.1 (r.is_run.prints 0) r.is_run.own);
+  of = subst (ArePart (lane_of old) lines) (sym (reverse-reverse r.run.events)) (whole_part (lane_of old) lines r.run r.are r.is_run);
 }
 
-module _ {V : Type 0} (shard : Hall V) (lines : List Line) (before : ℕ) (old new : Lane) (taken : AreTaken lines) (rests : RestsAgain shard (3 * length lines) old.pass new.pass) where
+module _ {V : Type 0} (shard : Hall V) (lines : List Line) (before : ℕ) (old new : Lane) (rests : RestsAgain shard (3 * length lines) old.pass new.pass) where
   -- by what its run answered
   pub worked : {X E : Type 0} (r : Result X E) → new.whole ≡ is_ok r → OnOk r (RunsLane lines before old.pass new.pass new.answers.items) → OnErr r (MadeFrom lines before old.pass new.pass) → HasWorked shard lines before old new
-  worked (Ok x) whole ran some = record { rests = rests; runs = λ is. ran; some = made_by_run lines before old.pass new.pass new.answers.items taken ran }
+  worked (Ok x) whole ran some = record { rests = rests; runs = λ is. ran; some = made_by_run lines before old.pass new.pass new.answers.items ran }
   worked (Err e) whole ran some = record { rests = rests; runs = λ is. absurd (true≢false (sym is ∙ whole)); some = some }
 
 added_of : (old new : Pass) (events : List Numbered) → lane_of new ≡ lane_of old → HasRun old new (reverse events) → HasAdded old new events
@@ -130,7 +129,7 @@ record LanesMade (lane : ℕ → ℕ) (lines : ℕ → List Line) (before : ℕ)
   pub events : List (List Numbered)
   pub count : length events ≡ length olds
   pub from : (i : ℕ) → AllFrom before (get_or events i [])
-  pub of : (i : ℕ) → AreBy (lane i) (IsCallOf (lines i)) (get_or events i [])
+  pub of : (i : ℕ) → ArePart (lane i) (lines i) (get_or events i [])
   pub added : (i : ℕ) → Adds (passes_of olds) (passes_of news) (λ k. get_or events k []) i
 
 record LaneMade (lane : ℕ) (lines : List Line) (before : ℕ) (old new : Lane) : Type 0 where
@@ -146,15 +145,14 @@ made_first lane lines before old new olds news here there =
       events = events ∷ there.events;
       count = ap suc there.count;
       from = first_or (λ (i : ℕ). AllFrom before (get_or (events ∷ there.events) i [])) (all_reverse (λ (e : Numbered). before ≤ e.0) m.events m.from) there.from;
-      of = first_or (λ (i : ℕ). AreBy (lane i) (IsCallOf (lines i)) (get_or (events ∷ there.events) i []))
-          (subst (λ (l : ℕ). AreBy l (IsCallOf (lines zero)) events) here.own (all_reverse (λ (e : Numbered). (e.1.lane ≡ lane_of old.pass) × IsCallOf (lines zero) e.1.call) m.events m.of)) there.of;
+      of = first_or (λ (i : ℕ). ArePart (lane i) (lines i) (get_or (events ∷ there.events) i [])) (subst (λ (l : ℕ). ArePart l (lines zero) events) here.own m.of) there.of;
       added = adds_first old.pass new.pass (passes_of olds) (passes_of news) (λ i. get_or (events ∷ there.events) i [])
           (added_newest_first old.pass new.pass m.events here.same m.run.begins m.run.made_is m.run.each) there.added;
     }
 
 lanes_made : (lane : ℕ → ℕ) (lines : ℕ → List Line) (before : ℕ) (olds news : List Lane) → length news ≡ length olds
     → ((i : ℕ) (d : Lane) → i < length olds → LaneMade (lane i) (lines i) before (get_or olds i d) (get_or news i d)) → LanesMade lane lines before olds news
-lanes_made lane lines before [] [] as_many each = record { events = []; count = refl; from = λ i. tt; of = λ i. tt; added = λ i p q e f. absurd (none_some p e) }
+lanes_made lane lines before [] [] as_many each = record { events = []; count = refl; from = λ i. tt; of = λ i. none_part (lane i) (lines i); added = λ i p q e f. absurd (none_some p e) }
 lanes_made lane lines before [] (new ∷ news) as_many each = absurd (omega (arith, as_many))
 lanes_made lane lines before (old ∷ olds) [] as_many each = absurd (omega (arith, as_many))
 lanes_made lane lines before (old ∷ olds) (new ∷ news) as_many each =

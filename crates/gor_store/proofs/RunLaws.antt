@@ -18,12 +18,10 @@ use Rattle.gor_hall.specs.Halls.{IsPassOf}
 use Rattle.gor_hall.specs.Passes.{seen, made, held, lane_of, left_of_pass}
 use Rattle.gor_finish.specs.Made.{Numbered, StandsIn, HasMade}
 use Rattle.gor_steps.specs.Points.{said, Makes, MakesNone}
-use Rattle.gor_text.proofs.Interleavings.{all-map}
 use Rattle.gor_text.specs.LineAnswers.{Act, Made}
 use Rattle.gor_text.specs.Transcripts.{printed_act}
 use Rattle.gor_store.specs.Stories.{printed_of}
 use Rattle.gor_store.specs.Lines.{IsResting, RestsAgain, HasRun, Prints}
-use Rattle.gor_store.specs.LineCalls.{AreBy, MadeBy}
 
 -- ---- one call
 
@@ -80,26 +78,6 @@ runs_on old mid new first later lane a b = record {
   own = ap (λ (l : ℕ). numbers l (seen new)) (sym lane) ∙ b.own;
   each = all_joined (StandsIn (seen new)) later first b.each (all_on (seen mid) (seen new) first b.begins a.each);
 }
-
--- nothing was made, by whatever calls
-pub none_made : (may : Call → Type 0) (old new : Pass) → HasRun old new [] → MadeBy may old new
-none_made may old new run = ([], run, tt)
-
--- by these calls all
-pub some_on : (may : Call → Type 0) (old mid new : Pass) (first : List Numbered) → lane_of mid ≡ lane_of old → HasRun old mid first → AreBy (lane_of old) may first → MadeBy may mid new → MadeBy may old new
-some_on may old mid new first lane a by b = (
-  b.0 ++ first,
-  runs_on old mid new first b.0 lane a b.1,
-  all_joined (λ (e : Numbered). (e.1.lane ≡ lane_of old) × may e.1.call) b.0 first (subst (λ (l : ℕ). AreBy l may b.0) lane b.2) by,
-)
-
--- by a call that is one of more
-pub some_wider : (narrow wide : Call → Type 0) (old new : Pass) → ((c : Call) → narrow c → wide c) → MadeBy narrow old new → MadeBy wide old new
-some_wider narrow wide old new more m = (
-  m.0,
-  m.1,
-  all-map (λ (e : Numbered). (e.1.lane ≡ lane_of old) × narrow e.1.call) (λ (e : Numbered). (e.1.lane ≡ lane_of old) × wide e.1.call) (λ e by. (by.0, more e.1.call by.1)) m.0 m.2,
-)
 
 -- ---- a pass rests again
 

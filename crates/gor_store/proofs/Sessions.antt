@@ -34,8 +34,8 @@ use Rattle.gor_store.specs.Lines.{is_taken}
 use Rattle.gor_store.specs.Shards.{BeginsFrom, HasClosed}
 use Rattle.gor_store.specs.Stories.{served_in, HistoryBegins, IsOneHistory}
 use Rattle.gor_store.specs.Sessions.{dones_of, HoldsSince, NeverFalls, KeepsItsWord, HoldsAllNow, SessionEnds, IsToldBy, HaveServed, SessionStands, SessionIsWhole}
-use Rattle.gor_store.specs.Works.{IsAmong}
-use Rattle.gor_store.proofs.LastEvents.{later_is_last}
+use Rattle.gor_store.specs.Works.{IsAmong, AreOfLane}
+use Rattle.gor_store.proofs.LastEvents.{later_is_last, later_is_in_order}
 use Rattle.gor_store.proofs.StoryLists.{same_tails}
 use Rattle.gor_store.proofs.Works.{work_is_told, work_is_closed}
 
@@ -87,9 +87,10 @@ module _ (start : Start) (passes : List Pass) (phases : List (List (List Line)))
 
   -- so is the text, and behind it come the last events alone
   told : IsWholeHistory start 9 passes h → (t : IsToldBy start phases text h) × (t.transcript.served ≡ served_in s.runs) × AllByRecursion (λ e. IsAmong (last e.lane) e) t.later
+      × ((lane : ℕ) → AreOfLane lane (t.transcript.histories 0) t.later (last lane))
   told whole =
       let g : HistoryBegins 0 start h s.runs last = work_is_told 0 start passes h s.runs last s.work whole in
-      (told_by g.later g.printed g.whole g.text, refl, later_is_last 0 start passes h s.runs last s.work whole g)
+      (told_by g.later g.printed g.whole g.text, refl, later_is_last 0 start passes h s.runs last s.work whole g, later_is_in_order 0 start passes h s.runs last s.work whole g)
 
 -- ---- the last flush
 
@@ -294,10 +295,11 @@ session_stands tells view faults slots old new start passes phases last text beg
       t.0,
       t.1,
       t.2,
+      t.3,
     )
 
 -- nothing of another lane is last
-others_none : (events : List Numbered) (lane : ℕ) → lane < 8 → only_last events lane ≡ []
+pub others_none : (events : List Numbered) (lane : ℕ) → lane < 8 → only_last events lane ≡ []
 others_none events lane below = ap (λ (b : Bool). if b then events else []) (ne_eqb lane 8 (λ (is : lane ≡ 8). omega (arith, is, below)))
 
 pub session_is_whole : {D : Type 0} (tells : Bool) (view : D → DiskView) (faults : D → ℕ) → SessionIsWhole tells view faults

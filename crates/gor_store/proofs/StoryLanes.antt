@@ -111,14 +111,19 @@ named_alone h old lane (e ∷ later) (x ∷ events) begins alone stand is =
     let rest : later ≡ map (λ (y : Numbered). y.1) events = named_alone h old lane later events (before_one h (later ++ old) e begins) alone.1 stand.1 (tails (length (later ++ old)) x.0 _ _ both) in
     λ i. sym here i ∷ rest i
 
+-- so are those of a lane among later ones of all lanes
+pub lane_added : (phase lane : ℕ) (h old news : History) (events : List Numbered) → IsBeginning (news ++ old) h → AllByRecursion (StandsIn h) events
+    → numbers lane (news ++ old) ≡ numbers_of events ++ numbers lane old → lane_prints phase lane (length old) news ≡ map (printed_of phase lane) events
+lane_added phase lane h old news events begins stand is =
+    named h old phase lane news (reverse events) begins (all_reverse (StandsIn h) events stand) (is ∙ ap (λ (ns : List ℕ). ns ++ numbers lane old) (sym (map_reverse (λ (e : Numbered). e.0) events)))
+    ∙ (ap reverse (map_reverse (printed_of phase lane) events) ∙ reverse-reverse (map (printed_of phase lane) events))
+
 -- the run of a lane prints what its lane added
 run_prints : (shard phase lane : ℕ) (h old news : History) (r : LaneRun) → IsRun shard lane r → IsBeginning (news ++ old) h → AllByRecursion (StandsIn h) r.events
     → numbers lane (news ++ old) ≡ numbers_of r.events ++ numbers lane old
     → flat_map (printed_line shard phase lane) r.served ≡ lane_prints phase lane (length old) news
 run_prints shard phase lane h old news r run begins stand is =
-    run.prints phase
-    ∙ sym (named h old phase lane news (reverse r.events) begins (all_reverse (StandsIn h) r.events stand) (is ∙ ap (λ (ns : List ℕ). ns ++ numbers lane old) (sym (map_reverse (λ (e : Numbered). e.0) r.events)))
-    ∙ (ap reverse (map_reverse (printed_of phase lane) r.events) ∙ reverse-reverse (map (printed_of phase lane) r.events)))
+    run.prints phase ∙ sym (lane_added phase lane h old news r.events begins stand is)
 
 -- and so do those of all lanes, from one on
 pub lanes_print : (shard phase lane : ℕ) (h old news : History) (runs : List LaneRun) → AreRuns shard lane runs → IsBeginning (news ++ old) h → AllByRecursion (λ r. AllByRecursion (StandsIn h) r.events) runs

@@ -11,7 +11,7 @@ use Rattle.gor_text.specs.declared.answer.LaneAnswer.{LaneAnswer}
 use Rattle.gor_text.specs.declared.workload.Line.{Line}
 use Rattle.gor_store.specs.Stories.{LaneRun, IsRun, AllFrom, printed_of}
 use Rattle.gor_store.specs.Lines.{HasRun, need, is_taken}
-use Rattle.gor_store.specs.LineCalls.{IsCallOf, AreBy}
+use Rattle.gor_store.specs.LineParts.{ArePart}
 
 -- each of the lines is one that is taken
 abbrev pub AreTaken : List Line → Type 0
@@ -48,10 +48,10 @@ pub record RunsLane (lines : List Line) (before : ℕ) (old new : Pass) (told : 
   pub made : HasRun old new (reverse run.events)
   pub from : AllFrom before run.events
 
--- Where memory is wanting, the events that were made stand: they are of the pass's lane, each is of a call of these lines, and
--- each number is at least this. The newest stands first.
+-- Where memory is wanting, the events that were made stand: they are just those of the first of these lines, each answered, and
+-- of a first part of what may answer the next; each number is at least this. The newest stands first.
 pub record MadeFrom (lines : List Line) (before : ℕ) (old new : Pass) : Type 0 where
   pub events : List Numbered
   pub run : HasRun old new events
   pub from : AllFrom before events
-  pub of : AreBy (lane_of old) (IsCallOf lines) events
+  pub of : ArePart (lane_of old) lines (reverse events)

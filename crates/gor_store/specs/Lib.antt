@@ -5,7 +5,7 @@ pub mod Stories
 pub mod Works
 pub mod WorkedStory
 pub mod Lines
-pub mod LineCalls
+pub mod LineParts
 pub mod Lanes
 pub mod Shards
 pub mod Phases

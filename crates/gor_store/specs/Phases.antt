@@ -13,7 +13,7 @@ use Rattle.gor_store.specs.declared.phases.Lane.{Lane}
 use Rattle.gor_store.specs.Stories.{LaneRun, AreRuns, AllFrom, events_at}
 use Rattle.gor_store.specs.Works.{HaveAdded}
 use Rattle.gor_store.specs.Lines.{IsResting, RestsAgain}
-use Rattle.gor_store.specs.LineCalls.{IsCallOf, AreBy}
+use Rattle.gor_store.specs.LineParts.{ArePart}
 use Rattle.gor_store.specs.Lanes.{AreTaken, needs, RunsLane, MadeFrom}
 
 -- the lines of the lane at a place
@@ -48,7 +48,7 @@ module _ {V : Type 0} where
     pub each : (k : ℕ) (p q : Pass) → slice_get olds k ≡ Some p → slice_get news k ≡ Some q → RestsAgain shard (3 * length (lines_at phase k)) p q
 
   -- The lane ran these lines if it says so; whatever it met, its pass rests again and has seen the events that it made, which are
-  -- of calls of these lines and whose numbers are at least this.
+  -- those of these lines up to some act and whose numbers are at least this.
   pub record HasWorked (shard : Hall V) (lines : List Line) (before : ℕ) (old new : Lane) : Type 0 where
     pub rests : RestsAgain shard (3 * length lines) old.pass new.pass
     pub runs : new.whole ≡ true → RunsLane lines before old.pass new.pass new.answers.items
@@ -66,11 +66,11 @@ pub record RanPhase (phase : List (List Line)) (before : ℕ) (olds news : List 
   pub added : HaveAdded olds news (λ k. events_at k runs)
   pub tells : told ≡ phase_answers 0 (map (λ r. r.served) runs)
 
--- Where memory was wanting in some lane: the events that were made, each by its lane for a call of this lane's lines, all behind
--- those before the phase.
+-- Where memory was wanting in some lane: the events that were made, those of each lane being its lines' up to some act, all
+-- behind those before the phase.
 pub record RanInPart (phase : List (List Line)) (before : ℕ) (olds news : List Pass) : Type 0 where
   pub more : ℕ → List Numbered
   pub added : HaveAdded olds news more
   pub from : (k : ℕ) → AllFrom before (more k)
-  pub of : (k : ℕ) → AreBy k (IsCallOf (lines_at phase k)) (more k)
+  pub of : (k : ℕ) → ArePart k (lines_at phase k) (more k)
   pub eight : (k : ℕ) → 8 ≤ k → more k ≡ []

@@ -22,7 +22,7 @@ use Rattle.gor_store.specs.Closings.{ClosesBy, only_last}
 use Rattle.gor_store.specs.Lanes.{AreTaken}
 use Rattle.gor_store.specs.Shards.{BeginsFrom, HasClosed}
 use Rattle.gor_store.specs.Stories.{LaneRun, served_in}
-use Rattle.gor_store.specs.Works.{IsWork, IsAmong}
+use Rattle.gor_store.specs.Works.{IsWork, IsAmong, AreOfLane}
 use Rattle.gor_hall.specs.declared.pass.Pass.{Pass}
 use Rattle.gor_finish.specs.Made.{Numbered}
 
@@ -99,13 +99,14 @@ pub record HaveServed (passes : List Pass) (phases : List (List (List Line))) (l
 
 module _ {D : Type 0} (tells : Bool) (view : D → DiskView) (faults : D → ℕ) where
   -- Whatever its passes did: the text is that of the lines as these passes served them, and what came after it are the last
-  -- events of the lanes, and no others.
+  -- events of the lanes, those of each lane in their order, and no others.
   abbrev pub SessionStands : Type 0
   SessionStands = (slots : ℕ) (old new : D) (start : Start) (passes : List Pass) (phases : List (List (List Line))) (last : ℕ → List Numbered) (text : List ℕ)
       → BeginsFrom 1 0 slots tells (view old) (faults old) start → AllByRecursion (AllByRecursion AreTaken) phases
       → (served : HaveServed passes phases last text) → (closed : HasClosed tells view faults start 9 passes new)
       → Session 1 0 slots tells view faults old new start closed.history
       × (told : IsToldBy start phases text closed.history) × (told.transcript.served ≡ served_in served.runs) × AllByRecursion (λ e. IsAmong (last e.lane) e) told.later
+      × ((lane : ℕ) → AreOfLane lane (told.transcript.histories 0) told.later (last lane))
 
   -- where nothing but a last flush came after the phases
   abbrev pub SessionIsWhole : Type 0

@@ -1,5 +1,5 @@
 -- What the passes of a shard have done so far, phase by phase, and how it goes on until the hall closes.
-use Rattle.std.specs.Prelude.{◌≡◌, ◌⊎◌, ℕ, ◌<◌, List, [], ◌∷◌, ◌++◌, length, sum_by, slice_get, Some}
+use Rattle.std.specs.Prelude.{◌≡◌, ◌⊎◌, ℕ, ◌<◌, List, [], ◌∷◌, ◌++◌, map, filter, length, reverse, sum_by, slice_get, Some}
 use Rattle.std.specs.List.{AllByRecursion}
 use Rattle.gor_model.specs.declared.event.Event.{Event}
 use Rattle.gor_model.specs.declared.start.Start.{Start}
@@ -10,7 +10,8 @@ use Rattle.gor_hall.specs.declared.pass.Pass.{Pass}
 use Rattle.gor_hall.specs.Passes.{seen, made, lane_of}
 use Rattle.gor_hall.specs.Closings.{IsWholeHistory}
 use Rattle.gor_finish.specs.Made.{Numbered, StandsIn}
-use Rattle.gor_store.specs.Stories.{LaneRun, AreRuns, AllFrom, events_at, events_of_lane, numbers_of, count_all, ComeInOrder, HistoryBegins, IsOneHistory}
+use Rattle.gor_text.specs.Interleaved.{of_lane, printed_events}
+use Rattle.gor_store.specs.Stories.{LaneRun, AreRuns, AllFrom, printed_of, events_at, events_of_lane, numbers_of, count_all, ComeInOrder, HistoryBegins, IsOneHistory}
 
 -- the pass made just these events, the oldest first, and has seen each at its number
 pub record HasDone (p : Pass) (events : List Numbered) : Type 0 where
@@ -42,6 +43,10 @@ nothing lane = []
 abbrev pub IsAmong : List Numbered → Event → Type 0
 IsAmong [] event = ⊥
 IsAmong (e ∷ events) event = (e.1 ≡ event) ⊎ IsAmong events event
+
+-- among some events behind a history those of a lane are just these, the oldest first, each at its number
+abbrev pub AreOfLane : ℕ → History → History → List Numbered → Type 0
+AreOfLane lane old news events = (phase : ℕ) → filter (of_lane lane) (printed_events phase (length old) (reverse news)) ≡ map (printed_of phase lane) events
 
 -- ---- laws
 
@@ -85,3 +90,8 @@ WorkIsClosed = (shard : ℕ) (start : Start) (passes : List Pass) (h : History) 
 abbrev pub LaterIsLast : Type 0
 LaterIsLast = (shard : ℕ) (start : Start) (passes : List Pass) (h : History) (phases : List (List LaneRun)) (last : ℕ → List Numbered)
     → IsWork shard passes phases last → IsWholeHistory start 9 passes h → (g : HistoryBegins shard start h phases last) → AllByRecursion (λ e. IsAmong (last e.lane) e) g.later
+
+-- lane by lane in the order in which they were made
+abbrev pub LaterIsInOrder : Type 0
+LaterIsInOrder = (shard : ℕ) (start : Start) (passes : List Pass) (h : History) (phases : List (List LaneRun)) (last : ℕ → List Numbered)
+    → IsWork shard passes phases last → IsWholeHistory start 9 passes h → (g : HistoryBegins shard start h phases last) → (lane : ℕ) → AreOfLane lane g.printed g.later (last lane)

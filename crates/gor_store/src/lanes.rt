@@ -4,7 +4,7 @@ ghost use Rattle.gor_model.specs.Windows.{slots_of_a_shard};
 ghost use Rattle.gor_hall.specs.Halls.{start_of};
 ghost use Rattle.gor_hall.specs.Passes.{seen, left_of_pass};
 ghost use Rattle.gor_store.specs.Lines.{IsResting, RestsAgain, HasRun};
-ghost use Rattle.gor_store.specs.LineCalls.{IsCallOf, MadeBy};
+ghost use Rattle.gor_store.specs.LineParts.{RanUntil};
 ghost use Rattle.gor_store.specs.Lanes.{AreTaken, needs, ServesAll, RunsLane, MadeFrom};
 
 use crate::lines::serve_line;
@@ -49,7 +49,7 @@ fn serve_all<D: Disk, P: Pause, R: Wait>(
     requires left { needs lines.now ≤ left_of_pass pass.old }
     ensures rests { RestsAgain shard.now (3 * length lines.now) pass.old pass.new }
     ensures served { OnOk result (ServesAll lines.now pass.old pass.new answers.old.items answers.new.items) }
-    ensures err { OnErr result (MadeBy (IsCallOf lines.now) pass.old pass.new) }
+    ensures err { OnErr result (RanUntil lines.now pass.old pass.new) }
 {
     let mut place: u32 = 0;
     for line in lines {
@@ -62,8 +62,8 @@ fn serve_all<D: Disk, P: Pause, R: Wait>(
 /// Runs the lines of a lane in a phase, before which so many events were made: the lane waits until it has seen them, so that
 /// each of its events has a number that is at least their count. The answers were empty before.
 ///
-/// Where memory is wanting, the events that were made stand: they are of calls of these lines, and their numbers too are at least
-/// this.
+/// Where memory is wanting, the events that were made stand: those of the first lines, each answered whole, and of a first part of
+/// the acts that may answer the next. Their numbers too are at least this.
 pub fn run_lane<D: Disk, P: Pause, R: Wait>(
     rt: &R,
     alloc: Global,

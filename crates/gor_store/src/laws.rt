@@ -1,7 +1,7 @@
 ghost use Rattle.gor_store.specs.Sessions.{ImagesOpenAgain, SessionStands, SessionIsWhole};
 ghost use Rattle.gor_store.specs.Stories.{OneHistory, OneHistoryBegins};
 ghost use Rattle.gor_store.specs.WorkedStory.{WorkedStory};
-ghost use Rattle.gor_store.specs.Works.{WorkStarts, PhaseIsDone, LastIsDone, WorkIsCounted, AddedIsLater, WorkIsTold, WorkIsClosed, LaterIsLast};
+ghost use Rattle.gor_store.specs.Works.{WorkStarts, PhaseIsDone, LastIsDone, WorkIsCounted, AddedIsLater, WorkIsTold, WorkIsClosed, LaterIsLast, LaterIsInOrder};
 
 use gor_disk::Disk;
 
@@ -27,8 +27,9 @@ pub fn laws()
     // The one history of a hall that closes has just what its passes have done.
     ensures told { WorkIsTold }
     ensures closed { WorkIsClosed }
-    // What comes behind the phases in it are the last events of the passes, and no others.
+    // What comes behind the phases in it are the last events of the passes, and no others, those of each lane in their order.
     ensures no_others { LaterIsLast }
+    ensures in_order { LaterIsInOrder }
 {}
 
 /// What stands once a shard has closed, as clauses: of a disk, of a session that its passes began from what that disk recovered
@@ -38,7 +39,7 @@ pub fn session_laws<D: Disk>()
     // in it only where the disk's faults rose. Every image of every moment since is fit and holds the state after a prefix of
     // its changes, and from the moment of each Done on one that has at least the changes which that Done counts. The text
     // answers the lines of all phases, as the passes served them, by a history that begins it; behind that come the last events
-    // of the lanes, and no others.
+    // of the lanes, those of each lane in their order, and no others.
     ensures stands { SessionStands D.tells D.view D.faults }
     // Where nothing but a last flush came after the phases, its events are of lane 8 and add no change. A Stop stands exactly
     // where that flush was not answered; and where it was, nothing is pending, and every image holds all changes.

@@ -11,7 +11,7 @@ ghost use Rattle.gor_steps.specs.Puts.{put_reply};
 ghost use Rattle.gor_text.specs.declared.workload.Line.TheVariants as line_;
 ghost use Rattle.gor_text.specs.declared.answer.What.TheVariants as what_;
 ghost use Rattle.gor_store.specs.Lines.{IsResting, RestsAgain, IsTold, IsPutTold, IsFlushTold, ServesLine, is_taken, is_due, need, flush_told};
-ghost use Rattle.gor_store.specs.LineCalls.{IsFlushCall, MadeBy, MadeSome};
+ghost use Rattle.gor_store.specs.LineParts.{HasFlushedOnce, HasBegun};
 
 use gor_disk::Disk;
 use gor_finish::{FlushReply, flush};
@@ -113,7 +113,7 @@ fn answer_get<D: Disk, P: Pause, R: Wait>(
     requires left { 16388 ≤ left_of_pass pass.old }
     ensures rests { RestsAgain shard.now 1 pass.old pass.new }
     ensures told { IfOk result (IsTold (line_.Get name.now from to) pass.old pass.new) }
-    ensures err { OnErr result (MadeSome (line_.Get name.now from to) pass.old pass.new) }
+    ensures err { OnErr result (HasBegun (line_.Get name.now from to) pass.old pass.new) }
 {
     let Some(name) = name_of(alloc, name)? else {
         return Ok(What::Refused(Reason::Name)); // whatever the range is
@@ -138,7 +138,7 @@ fn answer_del<D: Disk, R: Wait>(
     requires left { 16388 ≤ left_of_pass pass.old }
     ensures rests { RestsAgain shard.now 1 pass.old pass.new }
     ensures told { IfOk result (IsTold (line_.Del name.now) pass.old pass.new) }
-    ensures err { OnErr result (MadeSome (line_.Del name.now) pass.old pass.new) }
+    ensures err { OnErr result (HasBegun (line_.Del name.now) pass.old pass.new) }
 {
     let Some(name) = name_of(alloc, name)? else {
         return Ok(What::Refused(Reason::Name));
@@ -164,7 +164,7 @@ fn answer_put<D: Disk, R: Wait>(
     requires left { 16388 ≤ left_of_pass pass.old }
     ensures rests { RestsAgain shard.now 1 pass.old pass.new }
     ensures told { IfOk result (IsPutTold name.now time word pass.old pass.new) }
-    ensures err { OnErr result (MadeSome (line_.Put name.now time word) pass.old pass.new) }
+    ensures err { OnErr result (HasBegun (line_.Put name.now time word) pass.old pass.new) }
 {
     let Some(name) = name_of(alloc, name)? else {
         return Ok(refused_put(Reason::Name));
@@ -244,7 +244,7 @@ fn tell_flush<D: Disk, R: Wait>(
     requires left { 16388 ≤ left_of_pass pass.old }
     ensures rests { RestsAgain shard.now 2 pass.old pass.new }
     ensures told { OnOk result (IsFlushTold pass.old pass.new answers.old.items answers.new.items) }
-    ensures err { OnErr result (MadeBy IsFlushCall pass.old pass.new) }
+    ensures err { OnErr result (HasFlushedOnce pass.old pass.new) }
 {
     let lane = pass.lane();
     let reply = flush(rt, shard, pass);
@@ -267,7 +267,7 @@ fn serve_put<D: Disk, R: Wait>(
     requires left { 32776 ≤ left_of_pass pass.old }
     ensures rests { RestsAgain shard.now 3 pass.old pass.new }
     ensures served { OnOk result (ServesLine (line_.Put name.now time word) pass.old pass.new answers.old.items answers.new.items) }
-    ensures err { OnErr result (MadeSome (line_.Put name.now time word) pass.old pass.new) }
+    ensures err { OnErr result (HasBegun (line_.Put name.now time word) pass.old pass.new) }
 {
     let lane = pass.lane();
     let PutTold { what, due } = answer_put(rt, alloc, shard, pass, name, time, word)?;
@@ -290,7 +290,7 @@ fn serve_flush<D: Disk, R: Wait>(
     requires left { 16388 ≤ left_of_pass pass.old }
     ensures rests { RestsAgain shard.now 3 pass.old pass.new }
     ensures served { OnOk result (ServesLine (line_.Flush number) pass.old pass.new answers.old.items answers.new.items) }
-    ensures err { OnErr result (MadeSome (line_.Flush number) pass.old pass.new) }
+    ensures err { OnErr result (HasBegun (line_.Flush number) pass.old pass.new) }
 {
     if number > 0 {
         let lane = pass.lane();
@@ -316,7 +316,7 @@ fn serve_get<D: Disk, P: Pause, R: Wait>(
     requires left { 16388 ≤ left_of_pass pass.old }
     ensures rests { RestsAgain shard.now 3 pass.old pass.new }
     ensures served { OnOk result (ServesLine (line_.Get name.now from to) pass.old pass.new answers.old.items answers.new.items) }
-    ensures err { OnErr result (MadeSome (line_.Get name.now from to) pass.old pass.new) }
+    ensures err { OnErr result (HasBegun (line_.Get name.now from to) pass.old pass.new) }
 {
     let lane = pass.lane();
     let what = answer_get(rt, alloc, shard, pass, name, from, to, pause, place)?;
@@ -337,7 +337,7 @@ fn serve_del<D: Disk, R: Wait>(
     requires left { 16388 ≤ left_of_pass pass.old }
     ensures rests { RestsAgain shard.now 3 pass.old pass.new }
     ensures served { OnOk result (ServesLine (line_.Del name.now) pass.old pass.new answers.old.items answers.new.items) }
-    ensures err { OnErr result (MadeSome (line_.Del name.now) pass.old pass.new) }
+    ensures err { OnErr result (HasBegun (line_.Del name.now) pass.old pass.new) }
 {
     let lane = pass.lane();
     let what = answer_del(rt, alloc, shard, pass, name)?;
@@ -347,7 +347,7 @@ fn serve_del<D: Disk, R: Wait>(
 /// Answers one line, and tells what it brought about behind the answers before it. `place` is the line's among those of its
 /// lane, from 0. It waits for locks.
 ///
-/// Where memory is wanting, the events that the line has made stand, and they are of its calls.
+/// Where memory is wanting, the events that the line has made stand: those of a first part of the acts that may answer it.
 pub(crate) fn serve_line<D: Disk, P: Pause, R: Wait>(
     rt: &R,
     alloc: Global,
@@ -364,7 +364,7 @@ pub(crate) fn serve_line<D: Disk, P: Pause, R: Wait>(
     requires left { need line.now ≤ left_of_pass pass.old }
     ensures rests { RestsAgain shard.now 3 pass.old pass.new }
     ensures served { OnOk result (ServesLine line.now pass.old pass.new answers.old.items answers.new.items) }
-    ensures err { OnErr result (MadeSome line.now pass.old pass.new) }
+    ensures err { OnErr result (HasBegun line.now pass.old pass.new) }
 {
     match line {
         Line::Put { name, time, word } => serve_put(

@@ -168,7 +168,7 @@ fn gather(alloc: Global, lanes: &mut [Lane]) -> Result<Vec<LaneAnswer>, AllocErr
 /// and then answers its lines. What they told comes back in the order in which it is written, that of lane 0 first.
 ///
 /// Where a lane finds no memory, or the list of all answers has none, the others run to their ends, each pass stays in its
-/// place, and the events that were made stand, each of a call of a line of its lane.
+/// place, and the events that were made stand: in each lane those of its lines, in order, up to some act.
 #[tactic(auto, using(crate::proofs::Crossing::shard_sync))]
 pub(crate) fn run_phase<D: Disk + Send, P: Pause + Sync, R: Threads + Wait + Sync>(
     rt: &R,

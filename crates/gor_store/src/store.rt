@@ -174,7 +174,7 @@ impl<D: Disk + Send> Store<D> {
     /// Runs the lanes of a phase beside each other, once each has seen all events before the phase, and gives the answers in
     /// the order in which they are written. It waits for locks.
     ///
-    /// Where memory is wanting, the events that were made stand, each of a call of a line of its lane.
+    /// Where memory is wanting, the events that were made stand: in each lane those of its lines, in order, up to some act.
     pub fn run_phase<P: Pause + Sync, R: Threads + Wait + Sync>(
         &mut self,
         rt: &R,

@@ -6,4 +6,4 @@ use Rattle.gor_run.proofs.serving.answer_phase.Goals as goal
 
 pub returns-clause-err : goal.returns-clause-err
 returns-clause-err g c =
-    on_err_always c.text_of.result (ran_in_part (phase_lines c.args.phase.now) (events_of c.args.store.now) (passes_of c.args.store.now) (passes_of c.run_phase.new.self) c.in_ok-told.told.items c.requires.taken.taken c.in_ok-told.ensures.ok)
+    on_err_always c.text_of.result (ran_in_part (phase_lines c.args.phase.now) (events_of c.args.store.now) (passes_of c.args.store.now) (passes_of c.run_phase.new.self) c.in_ok-told.told.items c.in_ok-told.ensures.ok)

@@ -18,7 +18,7 @@ returns-in_err-serve_line-clause-err g c =
     let i = c.loop-line.invariant in
     on_err_always c.from_residual.result
     (served_some c.args.lines.now c.loop-line.line-index c.line-item.result c.loop-line-test.true c.line-item.is c.args.pass.now c.loop-line.pass c.serve_line.new.pass c.args.answers.now.items c.loop-line.answers.items
-    c.requires.taken i.rests.lane i.served c.in_err-serve_line.ensures.err)
+    i.rests.lane i.served c.in_err-serve_line.ensures.err)
 
 pub overflow_add-place : goal.overflow_add-place
 overflow_add-place g c =

@@ -1,5 +1,5 @@
 use Rattle.gor_store.proofs.Stories.{one_history, one_history_begins}
-use Rattle.gor_store.proofs.LastEvents.{later_is_last}
+use Rattle.gor_store.proofs.LastEvents.{later_is_last, later_is_in_order}
 use Rattle.gor_store.proofs.Works.{work_starts, phase_is_done, last_is_done, work_is_counted, added_is_later, work_is_told, work_is_closed}
 use Rattle.gor_store.proofs.WorkedStory.{worked_story}
 use Rattle.gor_store.proofs.laws.laws.Goals as goal
@@ -36,3 +36,6 @@ returns-clause-worked c = worked_story
 
 pub returns-clause-no_others : goal.returns-clause-no_others
 returns-clause-no_others c = later_is_last
+
+pub returns-clause-in_order : goal.returns-clause-in_order
+returns-clause-in_order c = later_is_in_order

@@ -7,7 +7,8 @@ use Rattle.gor_text.specs.declared.answer.What.{What}
 use Rattle.gor_text.specs.declared.answer.What.TheVariants as what_
 use Rattle.gor_text.specs.declared.workload.Line.TheVariants as line_
 use Rattle.gor_store.specs.Lines.{IsTold}
-use Rattle.gor_store.proofs.RunLaws.{no_run}
+use Rattle.gor_store.proofs.RunLaws.{no_run, none_run, on_err_always}
+use Rattle.gor_store.proofs.LineParts.{none_begun}
 use Rattle.gor_store.proofs.LineLaws.{told_refused, told_del}
 use Rattle.gor_store.proofs.lines.answer_del.Goals as goal
 
@@ -25,3 +26,10 @@ returns-in-Ok-clause-told g c =
     let is : c.event_of.result ≡ what_.Event 0 c.in-Ok.reply.number (del_reply c.in-Ok.reply.answer) = c.event_of.ensures ∙ ap (what_.Event 0 c.in-Ok.reply.number) c.del_told.ensures in
     subst (λ (w : What). IsTold (line_.Del c.args.name.now) c.args.pass.now c.del.new.pass w) (sym is)
     (told_del c.args.name.now c.in-Some.name c.args.pass.now c.del.new.pass c.in-Ok.reply.number (del_reply c.in-Ok.reply.answer) same named e)
+
+pub returns-in_err-name-clause-err : goal.returns-in_err-name-clause-err
+returns-in_err-name-clause-err g c = on_err_always c.from_residual.result
+    (none_begun (line_.Del c.args.name.now) c.args.pass.now c.args.pass.now (no_run c.args.shard.now c.args.pass.now c.requires.rests))
+
+pub returns-clause-err : goal.returns-clause-err
+returns-clause-err g c = none_begun (line_.Del c.args.name.now) c.args.pass.now c.del.new.pass (none_run c.args.shard.now c.args.pass.now c.del.new.pass c.requires.rests c.in-Err-NoMemory.ensures.none)

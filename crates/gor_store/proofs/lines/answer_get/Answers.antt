@@ -7,7 +7,8 @@ use Rattle.gor_text.specs.declared.answer.What.{What}
 use Rattle.gor_text.specs.declared.answer.What.TheVariants as what_
 use Rattle.gor_text.specs.declared.workload.Line.TheVariants as line_
 use Rattle.gor_store.specs.Lines.{IsTold}
-use Rattle.gor_store.proofs.RunLaws.{no_run}
+use Rattle.gor_store.proofs.RunLaws.{no_run, on_err_always}
+use Rattle.gor_store.proofs.LineParts.{none_begun}
 use Rattle.gor_store.proofs.LineLaws.{told_refused, told_range, told_get, get_some}
 use Rattle.gor_store.proofs.lines.answer_get.Goals as goal
 
@@ -34,4 +35,9 @@ returns-in-Err-Range-clause-told g c =
 pub returns-clause-err : goal.returns-clause-err
 returns-clause-err g c =
     let same : c.in-Some.name ≡ c.args.name.now = search rules in
-    get_some c.args.shard.now c.args.pass.now c.get.new.pass c.args.name.now c.in-Some.name c.args.from c.args.to c.in-Err-NoMemory.field-0 c.requires.rests same c.in-Err-NoMemory.ensures.refused
+    let named : IsName c.args.name.now = search rules in
+    get_some c.args.shard.now c.args.pass.now c.get.new.pass c.args.name.now c.in-Some.name c.args.from c.args.to c.in-Err-NoMemory.field-0 c.requires.rests named same c.in-Err-NoMemory.ensures.refused
+
+pub returns-in_err-name-clause-err : goal.returns-in_err-name-clause-err
+returns-in_err-name-clause-err g c = on_err_always c.from_residual.result
+    (none_begun (line_.Get c.args.name.now c.args.from c.args.to) c.args.pass.now c.args.pass.now (no_run c.args.shard.now c.args.pass.now c.requires.rests))

@@ -4,8 +4,8 @@ use Rattle.gor_text.specs.LineAnswers.{LineAnswers}
 use Rattle.gor_text.specs.declared.answer.Reason.TheVariants as reason
 use Rattle.gor_text.specs.declared.answer.What.TheVariants as what_
 use Rattle.gor_text.specs.declared.workload.Line.TheVariants as line_
-use Rattle.gor_store.specs.LineCalls.{Calls}
-use Rattle.gor_store.proofs.RunLaws.{no_run, none_run, none_made}
+use Rattle.gor_store.proofs.RunLaws.{no_run, none_run, on_err_always}
+use Rattle.gor_store.proofs.LineParts.{none_begun}
 use Rattle.gor_steps.specs.Puts.{PutRefused}
 use Rattle.gor_steps.specs.declared.puts.PutFault.TheVariants as put_fault
 use Rattle.gor_store.proofs.LineLaws.{put_refused, put_late, told_put}
@@ -36,4 +36,8 @@ returns-in-Err-Time-clause-told g c =
 pub returns-clause-err : goal.returns-clause-err
 returns-clause-err g c =
     let e : PutRefused c.args.pass.now c.args.time c.put.new.pass put_fault.NoMemory = subst (PutRefused c.args.pass.now c.args.time c.put.new.pass) c.in-Err-NoMemory.field-0-is c.in-Err-NoMemory.ensures.refused in
-    none_made (Calls (line_.Put c.args.name.now c.args.time c.args.word)) c.args.pass.now c.put.new.pass (none_run c.args.shard.now c.args.pass.now c.put.new.pass c.requires.rests e.1)
+    none_begun (line_.Put c.args.name.now c.args.time c.args.word) c.args.pass.now c.put.new.pass (none_run c.args.shard.now c.args.pass.now c.put.new.pass c.requires.rests e.1)
+
+pub returns-in_err-name-clause-err : goal.returns-in_err-name-clause-err
+returns-in_err-name-clause-err g c = on_err_always c.from_residual.result
+    (none_begun (line_.Put c.args.name.now c.args.time c.args.word) c.args.pass.now c.args.pass.now (no_run c.args.shard.now c.args.pass.now c.requires.rests))

@@ -1,8 +1,7 @@
-use Rattle.std.proofs.Common.{refl}
 use Rattle.gor_text.specs.declared.workload.Line.TheVariants as line_
 use Rattle.gor_store.proofs.RunLaws.{on_err_always}
 use Rattle.gor_store.proofs.LineLaws.{told_some}
 use Rattle.gor_store.proofs.lines.serve_get.Goals as goal
 
 pub returns-clause-err : goal.returns-clause-err
-returns-clause-err g c = on_err_always c.tell.result (told_some (line_.Get c.args.name.now c.args.from c.args.to) c.args.pass.now c.answer_get.new.pass c.in_ok-what.what refl c.in_ok-what.ensures.told)
+returns-clause-err g c = on_err_always c.tell.result (told_some (line_.Get c.args.name.now c.args.from c.args.to) c.args.pass.now c.answer_get.new.pass c.in_ok-what.what c.in_ok-what.ensures.told)

@@ -10,7 +10,7 @@ returns-then-due-clause-served g c = on_ok_weaker c.tell_flush.result
 
 pub returns-then-due-clause-err : goal.returns-then-due-clause-err
 returns-then-due-clause-err g c = on_err_weaker c.tell_flush.result
-    (put_some_on c.args.name.now c.args.time c.args.word c.args.pass.now c.answer_put.new.pass c.tell_flush.new.pass c.in_ok-what.field-0 c.answer_put.ensures.rests.lane c.in_ok-what.ensures.told) c.tell_flush.ensures.err
+    (put_some_on c.args.name.now c.args.time c.args.word c.args.pass.now c.answer_put.new.pass c.tell_flush.new.pass c.in_ok-what.field-0 c.answer_put.ensures.rests.lane c.in_ok-what.ensures.told c.if-due.true) c.tell_flush.ensures.err
 
 pub returns-clause-served : goal.returns-clause-served
 returns-clause-served g c = serves_put c.args.name.now c.args.time c.args.word c.args.pass.now c.answer_put.new.pass c.in_ok-what.field-0 c.lane-lane.result c.args.answers.now.items c.tell.new.answers.items
