@@ -21,11 +21,12 @@ use Rattle.gor_outside.specs.Causes.{Rose}
 use Rattle.gor_store.specs.LineParts.{ArePart}
 use Rattle.gor_store.specs.Phases.{RanPhase, RanInPart, lines_at}
 use Rattle.gor_store.specs.Sessions.{HaveServed}
-use Rattle.gor_store.specs.Stores.{HasLeft, HasMadeNothing, IsAtRest, IsSameStore, events_of, lines_of_lanes, passes_of}
+use Rattle.gor_store.specs.Stores.{HasLeft, HasLeftFor, ClosingHasLeft, HasMadeNothing, IsAtRest, IsSameStore, events_of, lines_of_lanes, passes_of}
 use Rattle.gor_store.specs.Stories.{AllFrom, AreRuns, LaneRun, count_all, events_at, numbers_of, served_in}
 use Rattle.gor_store.specs.Works.{HaveAdded, nothing}
 use Rattle.gor_store.specs.declared.store.Store.{Store}
 use Rattle.gor_store.proofs.LineParts.{none_part, whole_part}
+use Rattle.gor_store.proofs.NinePasses.{left_for, closing_left}
 use Rattle.gor_store.proofs.StoryLists.{all_mapped}
 use Rattle.gor_store.proofs.Works.{work_starts, phase_is_done, last_is_done, work_is_counted}
 use Rattle.gor_run.specs.Outputs.{AppendsPart, AppendsUntil}
@@ -231,15 +232,15 @@ module _ {D : Type 0} (old now next : Store D) (held grown : Option (List ℕ)) 
   counts : lines_of_phases left ≡ lines_of_lanes lanes + lines_of_phases rest
   counts = ap lines_of_phases first ∙ sum_by-cons lines_of_lanes lanes rest
 
-  pub enough_left : HasLeft (32776 * lines_of_lanes lanes) now
-  enough_left = fewer_left now (16388 + 32779 * lines_of_phases left) (32776 * lines_of_lanes lanes) so_far.left (let c = counts in omega arith)
+  pub enough_left : HasLeftFor lanes now
+  enough_left = left_for lanes now (fewer_left now (16388 + 32779 * lines_of_phases left) (32776 * lines_of_lanes lanes) so_far.left (let c = counts in omega arith))
 
   parted : phases ≡ (so_far.done ++ lanes ∷ []) ++ rest
   parted = so_far.parts ∙ (ap (λ (l : List (List (List Line))). so_far.done ++ l) first ∙ sym (append_assoc so_far.done (lanes ∷ []) rest))
 
   module _ (same : IsSameStore now next) (leaves : (n : ℕ) → HasLeft (n + 3 * lines_of_lanes lanes) now → HasLeft n next) where
-    pub still_left : HasLeft 16388 next
-    still_left = leaves 16388 (fewer_left now (16388 + 32779 * lines_of_phases left) (16388 + 3 * lines_of_lanes lanes) so_far.left (let c = counts in omega arith))
+    pub still_left : ClosingHasLeft 16388 next
+    still_left = closing_left 16388 next (leaves 16388 (fewer_left now (16388 + 32779 * lines_of_phases left) (16388 + 3 * lines_of_lanes lanes) so_far.left (let c = counts in omega arith)))
 
     pub still_same : IsSameStore old next
     still_same = same_store_twice old now next so_far.same same
@@ -283,5 +284,5 @@ all_phases old now held grown before after rest phases none so_far =
     let whole : phases ≡ so_far.done = so_far.parts ∙ (ap (λ (l : List (List (List Line))). so_far.done ++ l) none ∙ append-nil so_far.done) in
     record { text = so_far.text; served = subst (λ (ps : List (List (List Line))). HaveServed (passes_of now) ps nothing so_far.text) (sym whole) so_far.served; appended = so_far.appended }
 
-pub end_left : {D : Type 0} (old now : Store D) (held grown : Option (List ℕ)) (before after : ℕ) (rest phases : List (List (List Line))) → PhasesSoFar old now held grown before after rest phases → HasLeft 16388 now
-end_left old now held grown before after rest phases so_far = fewer_left now (16388 + 32779 * lines_of_phases rest) 16388 so_far.left (omega arith)
+pub end_left : {D : Type 0} (old now : Store D) (held grown : Option (List ℕ)) (before after : ℕ) (rest phases : List (List (List Line))) → PhasesSoFar old now held grown before after rest phases → ClosingHasLeft 16388 now
+end_left old now held grown before after rest phases so_far = closing_left 16388 now (fewer_left now (16388 + 32779 * lines_of_phases rest) 16388 so_far.left (omega arith))

@@ -7,7 +7,7 @@ ghost use Rattle.gor_text.specs.Workloads.{phase_lines};
 ghost use Rattle.gor_store.specs.Lanes.{AreTaken};
 ghost use Rattle.gor_store.specs.Phases.{RanInPart};
 ghost use Rattle.gor_store.specs.Shards.{BeginsFrom};
-ghost use Rattle.gor_store.specs.Stores.{HasLeft, HasMadeNothing, IsAtRest, IsSameStore, events_of, lines_of_lanes, others_of, passes_of};
+ghost use Rattle.gor_store.specs.Stores.{HasLeft, HasLeftFor, ClosingHasLeft, HasMadeNothing, IsAtRest, IsSameStore, events_of, lines_of_lanes, others_of, passes_of};
 ghost use Rattle.gor_run.specs.Dumps.{CallsFirst};
 ghost use Rattle.gor_run.specs.Serving.{AnswersPhase, EndsBy, HasEnded, HasWritten, status_by, unless_stopped as status_unless};
 ghost use Rattle.gor_run.specs.TakenLines.{AreTakenPhases, IsTakenPhase, lines_of_phases};
@@ -62,7 +62,7 @@ fn answer_phase<D: Disk + Send, P: Pause + Sync, R: Threads + Wait + Sync>(
 ) -> Result<Vec<u8>, AllocError>
     requires rests { IsAtRest store.old }
     requires taken { IsTakenPhase (phase_lines phase.now) }
-    requires left { HasLeft (32776 * lines_of_lanes (phase_lines phase.now)) store.old }
+    requires left { HasLeftFor (phase_lines phase.now) store.old }
     ensures rests { IsAtRest store.new }
     ensures same { IsSameStore store.old store.new }
     ensures left { (n : ℕ) → HasLeft (n + 3 * lines_of_lanes (phase_lines phase.now)) store.old → HasLeft n store.new }
@@ -89,7 +89,7 @@ fn write_phases<K: Sink, D: Disk + Send, P: Pause + Sync, R: Threads + Wait + Sy
     requires few { lines_of_phases (map phase_lines phases.now) ≤ 16777217 }
     ensures rests { IsAtRest store.new }
     ensures same { IsSameStore store.old store.new }
-    ensures left { HasLeft 16388 store.new }
+    ensures left { ClosingHasLeft 16388 store.new }
     ensures written { HasWritten result (passes_of store.new) (map phase_lines phases.now) (K.held sink.old) (K.held sink.new) (K.faults sink.old) (K.faults sink.new) }
 {
     for phase in phases {
@@ -108,7 +108,7 @@ fn write_phases<K: Sink, D: Disk + Send, P: Pause + Sync, R: Threads + Wait + Sy
 /// Flushes what waits, and closes the store. It takes no memory.
 fn end<D: Disk + Send, R: Wait>(rt: &R, store: Store<D>) -> Ended<D>
     requires rests { IsAtRest store }
-    requires left { HasLeft 16388 store }
+    requires left { ClosingHasLeft 16388 store }
     ensures { HasEnded D.tells D.view D.faults store result.stopped result.disks.items }
 {
     let mut store = store;

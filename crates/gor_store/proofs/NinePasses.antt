@@ -4,7 +4,7 @@ use Rattle.std.specs.Prelude.{sum_by, if◌then◌else◌}
 use Rattle.std.specs.List.{AllByRecursion}
 use Rattle.std.proofs.lemmas.Bool.{ne_eqb}
 use Rattle.std.proofs.lemmas.List.{length-append, length-map, take-append-le, take_all}
-use Rattle.std.proofs.lemmas.List.Sums.{sum_by_more, get_or-le-sum_by}
+use Rattle.std.proofs.lemmas.List.Sums.{sum_by-cons, sum_by_more, get_or-le-sum_by}
 use Rattle.std.proofs.lemmas.Option.{slice_get-get_or, slice_get_within}
 use Rattle.gor_rule.proofs.Numbers.{beginning_self}
 use Rattle.gor_rule.specs.Rule.{numbers}
@@ -25,7 +25,8 @@ use Rattle.gor_store.specs.Phases.{passes_of as passes_of_lanes, lines_at, AreRe
 use Rattle.gor_store.specs.Shards.{AreFirst, AreIdle}
 use Rattle.gor_store.specs.Stories.{LaneRun, events_at}
 use Rattle.gor_store.specs.Closings.{only_last}
-use Rattle.gor_store.specs.Stores.{passes_with, AreSeated, HaveLeft, HaveMadeNothing, lines_of_lanes}
+use Rattle.gor_store.specs.Stores.{passes_with, AreSeated, HaveLeft, HaveLeftFor, HaveMadeNothing, HasLeft, HasLeftFor, ClosingHasLeft, lines_of_lanes}
+use Rattle.gor_store.specs.declared.store.Store.{Store}
 use Rattle.gor_store.specs.Works.{HasAdded, HaveAdded}
 
 -- ---- a list with one more at its end
@@ -171,17 +172,22 @@ taken_at [] k all = tt
 taken_at (lines ∷ phase) zero all = all.0
 taken_at (lines ∷ phase) (suc k) all = taken_at phase k all.1
 
-pub are_ready : {V : Type 0} (hall : Hall V) (phase : List (List Line)) (olds : List Pass) (last : Pass) → length phase ≡ 8 → length olds ≡ 8 → AllByRecursion AreTaken phase
-    → AreSeated hall (olds ++ last ∷ []) → HaveLeft (32776 * lines_of_lanes phase) (olds ++ last ∷ []) → AreReady hall phase olds
-are_ready hall phase olds last eight lanes taken seated left k p at =
+pub are_ready : {V : Type 0} (hall : Hall V) (phase : List (List Line)) (olds : List Pass) (last : Pass) → AllByRecursion AreTaken phase
+    → AreSeated hall (olds ++ last ∷ []) → HaveLeftFor phase (olds ++ last ∷ []) → AreReady hall phase olds
+are_ready hall phase olds last taken seated left k p at =
     let there = at_place olds last p k at in
-    let low = slice_get_within olds k p at in
-    let few = get_or-le-sum_by length phase k [] (omega (arith, low, lanes, eight)) in
-    let enough = left k p there in
-    let most = needs_most (lines_at phase k) in (
-      (seated k p there).0,
-      record { taken = taken_at phase k taken; rests = (seated k p there).1; left = omega (arith, few, enough, most) },
-    )
+    ((seated k p there).0, record { taken = taken_at phase k taken; rests = (seated k p there).1; left = left k p there })
+
+-- ---- enough for all lines is enough for those of each lane, and for a last flush
+
+lane_few : (phase : List (List Line)) (k : ℕ) → length (lines_at phase k) ≤ lines_of_lanes phase
+lane_few [] k = omega arith
+lane_few (lines ∷ phase) zero = let s = sum_by-cons length lines phase in omega (arith, s)
+lane_few (lines ∷ phase) (suc k) = let s = sum_by-cons length lines phase in let few = lane_few phase k in omega (arith, s, few)
+
+pub left_for : {D : Type 0} (phase : List (List Line)) (store : Store D) → HasLeft (32776 * lines_of_lanes phase) store → HasLeftFor phase store
+left_for phase store left k p at = let enough = left k p at in let most = needs_most (lines_at phase k) in let few = lane_few phase k in omega (arith, enough, most, few)
+
 
 -- ---- a phase of nine passes
 
@@ -215,6 +221,9 @@ pass_at (l ∷ lanes) closing (suc i) lane low is = pass_at lanes closing i lane
 
 pub closing_at : (lanes : List Lane) (closing : Pass) → slice_get (passes_with lanes closing) (length (passes_of_lanes lanes)) ≡ Some closing
 closing_at lanes closing = at_last (passes_of_lanes lanes) closing
+
+pub closing_left : {D : Type 0} (n : ℕ) (store : Store D) → HasLeft n store → ClosingHasLeft n store
+closing_left n store left = left (length (passes_of_lanes store.lanes.items)) store.closing (closing_at store.lanes.items store.closing)
 
 pub made_more : (lanes : List Lane) (i : ℕ) (lane : Lane) (events more : ℕ) → i < length lanes → lane ≡ get_or lanes i lane → events ≡ sum_by (λ (l : Lane). length (made l.pass)) (take i lanes) → more ≡ length (made lane.pass)
     → events + more ≡ sum_by (λ (l : Lane). length (made l.pass)) (take (i + 1) lanes)

@@ -17,7 +17,8 @@ use Rattle.gor_image.specs.declared.recovered.OpenFault.{OpenFault}
 use Rattle.gor_text.specs.declared.workload.Line.{Line}
 use Rattle.gor_store.specs.Closings.{ClosesBy, only_last}
 use Rattle.gor_store.specs.Lines.{IsResting}
-use Rattle.gor_store.specs.Phases.{passes_of as passes_of_lanes}
+use Rattle.gor_store.specs.Lanes.{needs}
+use Rattle.gor_store.specs.Phases.{passes_of as passes_of_lanes, lines_at}
 use Rattle.gor_store.specs.Shards.{HasClosed}
 use Rattle.gor_store.specs.Stories.{AllFrom}
 use Rattle.gor_store.specs.Works.{HasAdded, HaveAdded}
@@ -47,6 +48,10 @@ AreSeated hall passes = (k : ℕ) (p : Pass) → slice_get passes k ≡ Some p �
 -- each pass has at least so many events left
 abbrev pub HaveLeft : ℕ → List Pass → Type 0
 HaveLeft n passes = (k : ℕ) (p : Pass) → slice_get passes k ≡ Some p → n ≤ left_of_pass p
+
+-- each has enough left for the lines of its lane
+abbrev pub HaveLeftFor : List (List Line) → List Pass → Type 0
+HaveLeftFor phase passes = (k : ℕ) (p : Pass) → slice_get passes k ≡ Some p → needs (lines_at phase k) ≤ left_of_pass p
 
 -- no pass has made an event
 abbrev pub HaveMadeNothing : List Pass → Type 0
@@ -87,6 +92,14 @@ module _ {D : Type 0} where
   -- each pass has at least so many events left
   abbrev pub HasLeft : ℕ → Store D → Type 0
   HasLeft n store = HaveLeft n (passes_of store)
+
+  -- that of each lane has enough left for the lane's own lines
+  abbrev pub HasLeftFor : List (List Line) → Store D → Type 0
+  HasLeftFor phase store = HaveLeftFor phase (passes_of store)
+
+  -- that of lane 8 has so many
+  abbrev pub ClosingHasLeft : ℕ → Store D → Type 0
+  ClosingHasLeft n store = n ≤ left_of_pass store.closing
 
   -- no pass has made an event
   abbrev pub HasMadeNothing : Store D → Type 0

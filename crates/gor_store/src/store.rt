@@ -10,7 +10,7 @@ ghost use Rattle.gor_store.specs.Lines.{IsResting, RestsAgain};
 ghost use Rattle.gor_store.specs.Lanes.{AreTaken};
 ghost use Rattle.gor_store.specs.Phases.{RanPhase, RanInPart};
 ghost use Rattle.gor_store.specs.Shards.{AreFirst, BeginsFrom};
-ghost use Rattle.gor_store.specs.Stores.{IsAtRest, HasRooms, in_their_order, HasLeft, HasMadeNothing, IsSameStore, WasRefused, FlushedBehind, HasFlushed, ComeBack, others_of, passes_of, events_of, lines_of_lanes, stopped_by};
+ghost use Rattle.gor_store.specs.Stores.{IsAtRest, HasRooms, in_their_order, HasLeft, HasLeftFor, ClosingHasLeft, HasMadeNothing, IsSameStore, WasRefused, FlushedBehind, HasFlushed, ComeBack, others_of, passes_of, events_of, lines_of_lanes, stopped_by};
 
 use crate::disks::{put_back, take_first};
 use crate::lanes::wait_for;
@@ -185,7 +185,7 @@ impl<D: Disk + Send> Store<D> {
         requires rests { IsAtRest self.old }
         requires eight { length (phase_lines phase.now) ≡ 8 }
         requires taken { AllByRecursion AreTaken (phase_lines phase.now) }
-        requires left { HasLeft (32776 * lines_of_lanes (phase_lines phase.now)) self.old }
+        requires left { HasLeftFor (phase_lines phase.now) self.old }
         ensures rests { IsAtRest self.new }
         ensures same { IsSameStore self.old self.new }
         ensures left { (n : ℕ) → HasLeft (n + 3 * lines_of_lanes (phase_lines phase.now)) self.old → HasLeft n self.new }
@@ -200,7 +200,7 @@ impl<D: Disk + Send> Store<D> {
     /// stopped. It takes no memory, and waits for locks.
     pub fn flush_all<R: Wait>(&mut self, rt: &R) -> Option<u32>
         requires rests { IsAtRest self.old }
-        requires left { HasLeft 16388 self.old }
+        requires left { ClosingHasLeft 16388 self.old }
         ensures rests { IsAtRest self.new }
         ensures same { IsSameStore self.old self.new }
         ensures flushed { HasFlushed self.old self.new result }

@@ -2,6 +2,7 @@ use Rattle.std.proofs.Common.{ℕ, ◌+◌, ◌*◌, ◌≤◌, arith}
 use Rattle.gor_text.specs.Workloads.{phase_lines}
 use Rattle.gor_store.specs.Stores.{HasLeft, lines_of_lanes}
 use Rattle.gor_store.specs.declared.store.Store.{Store}
+use Rattle.gor_store.proofs.NinePasses.{left_for, closing_left}
 use Rattle.gor_bench.proofs.store.answer.Goals as goal
 
 fewer_left : {D : Type 0} (store : Store D) (n m : ℕ) → HasLeft n store → m ≤ n → HasLeft m store
@@ -9,9 +10,10 @@ fewer_left store n m left less k p at = let enough = left k p at in omega (arith
 
 pub run_phase-requires-clause-left : goal.run_phase-requires-clause-left
 run_phase-requires-clause-left g c κs within =
-    fewer_left c.args.store 1099511627776 (32776 * lines_of_lanes (phase_lines c.args.phase.now)) c.requires.left (let few = c.requires.small.few in omega (arith, few))
+    left_for (phase_lines c.args.phase.now) c.args.store
+    (fewer_left c.args.store 1099511627776 (32776 * lines_of_lanes (phase_lines c.args.phase.now)) c.requires.left (let few = c.requires.small.few in omega (arith, few)))
 
 pub flush_all-requires-clause-left : goal.flush_all-requires-clause-left
 flush_all-requires-clause-left g c κs within =
-    c.run_phase.ensures.left 16388
-    (fewer_left c.args.store 1099511627776 (16388 + 3 * lines_of_lanes (phase_lines c.args.phase.now)) c.requires.left (let few = c.requires.small.few in omega (arith, few)))
+    closing_left 16388 c.run_phase.new.self (c.run_phase.ensures.left 16388
+    (fewer_left c.args.store 1099511627776 (16388 + 3 * lines_of_lanes (phase_lines c.args.phase.now)) c.requires.left (let few = c.requires.small.few in omega (arith, few))))

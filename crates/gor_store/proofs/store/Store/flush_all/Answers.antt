@@ -19,8 +19,7 @@ flush_behind-requires-clause-lane g c =
     ∙ eight_passes c.args.self.now.lanes.items c.requires.rests.eight
 
 pub flush_behind-requires-clause-left : goal.flush_behind-requires-clause-left
-flush_behind-requires-clause-left g c =
-    c.requires.left (length (passes_of c.args.self.now.lanes.items)) c.args.self.now.closing (closing_at c.args.self.now.lanes.items c.args.self.now.closing)
+flush_behind-requires-clause-left g c = c.requires.left
 
 pub returns-clause-rests : goal.returns-clause-rests
 returns-clause-rests g c = let r = c.requires.rests in record {

@@ -17,7 +17,7 @@ run_phase-requires-clause-eight g c κs within = (ap length c.deref_mut.ensures.
 pub run_phase-requires-clause-ready : goal.run_phase-requires-clause-ready
 run_phase-requires-clause-ready g c κs within k p at =
     let s = c.args.self.now in
-    are_ready s.hall (phase_lines c.args.phase.now) (passes_of s.lanes.items) s.closing c.requires.eight (eight_passes s.lanes.items c.requires.rests.eight) c.requires.taken c.requires.rests.each c.requires.left k p
+    are_ready s.hall (phase_lines c.args.phase.now) (passes_of s.lanes.items) s.closing c.requires.taken c.requires.rests.each c.requires.left k p
     (subst (λ (ls : List Lane). slice_get (passes_of ls) k ≡ Some p) c.deref_mut.ensures.value at)
 
 pub returns-clause-rests : goal.returns-clause-rests
