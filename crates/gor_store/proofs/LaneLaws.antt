@@ -1,5 +1,5 @@
 -- Lines after each other, and the numbers of a lane that has first seen all events before its phase.
-use Rattle.std.proofs.Common.{◌≡◌, inl, true, ℕ, suc, ◌+◌, ◌*◌, ◌^◌, ◌<◌, ◌≤◌, List, [], ◌∷◌, ◌++◌, length, map, flat_map, reverse, take, drop, get_or, refl, sym, ap, ◌∙◌, subst, arith, append_assoc, add-one, drop-cons}
+use Rattle.std.proofs.Common.{◌≡◌, ℕ, suc, ◌+◌, ◌*◌, ◌^◌, ◌<◌, ◌≤◌, List, [], ◌∷◌, ◌++◌, length, map, flat_map, reverse, take, drop, get_or, refl, sym, ap, ◌∙◌, subst, arith, append_assoc, add-one, drop-cons}
 use Rattle.std.specs.List.{AllByRecursion}
 use Rattle.std.proofs.lemmas.List.{append-nil, map-append, reverse-append, reverse-reverse, take_more, take-append-drop}
 use Rattle.std.proofs.lemmas.Grind.{flat_map-append}
@@ -19,7 +19,7 @@ use Rattle.gor_text.specs.declared.answer.LaneAnswer.{LaneAnswer}
 use Rattle.gor_text.specs.declared.workload.Line.{Line}
 use Rattle.gor_text.specs.declared.workload.Line.TheVariants.{Put, Get, Del, Flush, Finish, Merge}
 use Rattle.gor_store.specs.Stories.{AllFrom, printed_of}
-use Rattle.gor_store.specs.Lines.{IsResting, RestsAgain, HasRun, HasTold, ServesLine, Prints, is_taken, need}
+use Rattle.gor_store.specs.Lines.{IsResting, RestsAgain, HasRun, HasTold, ServesLine, Prints, need}
 use Rattle.gor_store.specs.LineParts.{ArePart, HasBegun, RanUntil}
 use Rattle.gor_store.specs.Lanes.{AreTaken, needs, ServesAll, RunsLane, MadeFrom}
 use Rattle.gor_store.proofs.LineParts.{ran_until}

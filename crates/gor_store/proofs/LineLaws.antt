@@ -10,7 +10,6 @@ use Rattle.gor_model.specs.declared.event.Reply.TheVariants as reply
 use Rattle.gor_hall.specs.declared.hall.Hall.{Hall}
 use Rattle.gor_hall.specs.declared.pass.Pass.{Pass}
 use Rattle.gor_hall.specs.Passes.{lane_of}
-use Rattle.gor_finish.specs.Made.{Numbered}
 use Rattle.gor_finish.specs.Flushes.{IsFlush, take_made, take_refused, done_made, stop_made}
 use Rattle.gor_finish.specs.declared.reply.FlushReply.{FlushReply}
 use Rattle.gor_finish.specs.declared.reply.FlushReply.TheVariants as flushed

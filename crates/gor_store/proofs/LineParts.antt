@@ -1,11 +1,10 @@
 -- What was made of some lines is what lines that were answered print, and a first part of one more.
-use Rattle.std.proofs.Common.{◌≡◌, inl, ℕ, ◌+◌, List, [], ◌∷◌, ◌++◌, map, flat_map, reverse, refl, sym, ap, ◌∙◌, subst}
-use Rattle.std.specs.List.{AllByRecursion}
+use Rattle.std.proofs.Common.{◌≡◌, inl, ℕ, List, [], ◌∷◌, ◌++◌, map, flat_map, reverse, refl, sym, ap, ◌∙◌, subst}
 use Rattle.std.proofs.lemmas.List.{append-nil, map-append, reverse-append}
 use Rattle.gor_hall.specs.declared.pass.Pass.{Pass}
 use Rattle.gor_hall.specs.Passes.{lane_of}
 use Rattle.gor_finish.specs.Made.{Numbered}
-use Rattle.gor_text.specs.LineAnswers.{Act, LineAnswers}
+use Rattle.gor_text.specs.LineAnswers.{Act}
 use Rattle.gor_text.specs.Transcripts.{Served, printed_act, printed_line}
 use Rattle.gor_text.specs.declared.answer.LaneAnswer.{LaneAnswer}
 use Rattle.gor_text.specs.declared.workload.Line.{Line}

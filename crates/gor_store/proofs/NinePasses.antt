@@ -188,7 +188,6 @@ lane_few (lines ∷ phase) (suc k) = let s = sum_by-cons length lines phase in l
 pub left_for : {D : Type 0} (phase : List (List Line)) (store : Store D) → HasLeft (32776 * lines_of_lanes phase) store → HasLeftFor phase store
 left_for phase store left k p at = let enough = left k p at in let most = needs_most (lines_at phase k) in let few = lane_few phase k in omega (arith, enough, most, few)
 
-
 -- ---- a phase of nine passes
 
 pub ran_phase : (phase : List (List Line)) (before : ℕ) (olds news : List Pass) (last : Pass) (told : List LaneAnswer) → length olds ≡ 8 → RanPhase phase before olds news told → RanPhase phase before (olds ++ last ∷ []) (news ++ last ∷ []) told

@@ -1,18 +1,17 @@
 -- What a crash leaves of a session opens again.
-use Rattle.std.proofs.Common.{◌≡◌, ◌⊎◌, ℕ, ◌≤◌, List, ◌++◌, Bool, refl, sym, ap, subst, ◌∙◌}
-use Rattle.std.specs.Prelude.{IsTrue, Ok, Err}
-use Rattle.gor_disk.specs.Disk.{DiskView, Contents, IsImageAt, LeavesSince}
+use Rattle.std.proofs.Common.{◌≡◌, ◌⊎◌, ℕ, Bool, sym, ap, subst}
+use Rattle.std.specs.Prelude.{Ok, Err}
+use Rattle.gor_disk.specs.Disk.{DiskView}
 use Rattle.gor_model.specs.declared.start.Start.{Start}
-use Rattle.gor_model.specs.Changes.{History, changes}
+use Rattle.gor_model.specs.Changes.{changes}
 use Rattle.gor_model.specs.Starts.{IsStart}
 use Rattle.gor_flush.specs.Devices.{HoldsPrefix}
 use Rattle.gor_flush.specs.Starts.{opened_start}
-use Rattle.gor_image.specs.Fit.{IsFitFor}
 use Rattle.gor_image.specs.Images.{opens_to}
 use Rattle.gor_image.specs.declared.fault.ImageFault.TheVariants as fault
 use Rattle.gor_image.proofs.OpenAgain.{opens_again}
 use Rattle.gor_store.specs.Shards.{BeginsFrom}
-use Rattle.gor_store.specs.Sessions.{Session, OpensAgain, ImagesOpenAgain}
+use Rattle.gor_store.specs.Sessions.{OpensAgain, ImagesOpenAgain}
 use Rattle.gor_store.proofs.InOrder.{is_start}
 
 slots_are : (shards shard slots : ℕ) (tells : Bool) (seen : DiskView) (faults : ℕ) (start : Start) → BeginsFrom shards shard slots tells seen faults start → start.slots ≡ slots

@@ -2,7 +2,6 @@
 use Rattle.std.proofs.Common.{◌≡◌, ℕ, ◌+◌, List, [], ◌∷◌, ◌++◌, map, flat_map, refl, sym, ap, ◌∙◌}
 use Rattle.std.proofs.lemmas.Grind.{flat_map-append}
 use Rattle.std.proofs.lemmas.List.Concat.{flat_map-cons}
-use Rattle.gor_text.specs.declared.answer.LaneAnswer.{LaneAnswer}
 use Rattle.gor_text.specs.LineAnswers.{Act, Made, Refused, MergedPoints}
 use Rattle.gor_text.specs.Spelling.{answer_line}
 use Rattle.gor_text.specs.Transcripts.{Served, act_text, lane_text, phase_text_from}
