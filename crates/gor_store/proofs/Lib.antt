@@ -14,6 +14,7 @@ pub mod WorkedStory
 pub mod RunLaws
 pub mod LineParts
 pub mod LineLaws
+pub mod BegunLaws
 pub mod LaneLaws
 pub mod OpenShards
 pub mod Crossing

@@ -1,3 +1,4 @@
+ghost use Rattle.gor_store.specs.LineParts.{RefusedMakesNone, FlushFollowsDue};
 ghost use Rattle.gor_store.specs.Sessions.{ImagesOpenAgain, SessionStands, SessionIsWhole};
 ghost use Rattle.gor_store.specs.Stories.{OneHistory, OneHistoryBegins};
 ghost use Rattle.gor_store.specs.WorkedStory.{WorkedStory};
@@ -30,6 +31,10 @@ pub fn laws()
     // What comes behind the phases in it are the last events of the passes, and no others, those of each lane in their order.
     ensures no_others { LaterIsLast }
     ensures in_order { LaterIsInOrder }
+    // Of a line that found no memory: where it is refused for its arguments it made no event, and where anything was made behind
+    // a put, the put was stored and due.
+    ensures refused { RefusedMakesNone }
+    ensures due { FlushFollowsDue }
 {}
 
 /// What stands once a shard has closed, as clauses: of a disk, of a session that its passes began from what that disk recovered

@@ -1,4 +1,5 @@
 use Rattle.gor_store.proofs.Stories.{one_history, one_history_begins}
+use Rattle.gor_store.proofs.BegunLaws.{refused_makes_none, flush_follows_due}
 use Rattle.gor_store.proofs.LastEvents.{later_is_last, later_is_in_order}
 use Rattle.gor_store.proofs.Works.{work_starts, phase_is_done, last_is_done, work_is_counted, added_is_later, work_is_told, work_is_closed}
 use Rattle.gor_store.proofs.WorkedStory.{worked_story}
@@ -39,3 +40,9 @@ returns-clause-no_others c = later_is_last
 
 pub returns-clause-in_order : goal.returns-clause-in_order
 returns-clause-in_order c = later_is_in_order
+
+pub returns-clause-refused : goal.returns-clause-refused
+returns-clause-refused c = refused_makes_none
+
+pub returns-clause-due : goal.returns-clause-due
+returns-clause-due c = flush_follows_due
