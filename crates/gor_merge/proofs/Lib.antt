@@ -1,0 +1,4 @@
+pub mod OneOrder
+pub mod RoundLaws
+pub mod HeadLaws
+pub mod MergeSteps
