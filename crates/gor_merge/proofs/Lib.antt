@@ -2,3 +2,4 @@ pub mod OneOrder
 pub mod RoundLaws
 pub mod HeadLaws
 pub mod MergeSteps
+pub mod ReadsRise

@@ -2,7 +2,7 @@
 //!
 //! - `merging`: [`merge`], the one call.
 //! - `tournament`: which of the lists' next points comes first.
-//! - `laws`: that lists are merged in one way.
+//! - `laws`: that lists are merged in one way, and that what gets give may be merged.
 //!
 //! What a merged list is, `IsMerged`, stands in `gor_model`.
 #![tactic(auto)]
