@@ -1,0 +1,5 @@
+pub mod OneOrder
+pub mod RoundLaws
+pub mod HeadLaws
+pub mod MergeSteps
+pub mod ReadsRise

@@ -1,0 +1,3 @@
+pub mod Heads
+pub mod Rounds
+pub mod Laws
