@@ -12,3 +12,8 @@ pub mod Counted
 pub mod SameActs
 pub mod NoStops
 pub mod OneTexts
+pub mod Decoded
+pub mod RowNames
+pub mod LaneCalls
+pub mod LaneLines
+pub mod OneHistories
