@@ -14,6 +14,7 @@ pub mod NoStops
 pub mod OneTexts
 pub mod Decoded
 pub mod RowNames
+pub mod SealFree
 pub mod LaneCalls
 pub mod LaneLines
 pub mod OneHistories

@@ -1,5 +1,5 @@
 -- Two transcripts with one text of one workload have one history of each shard.
-use Rattle.std.proofs.Common.{◌≡◌, inl, inr, ℕ, zero, suc, ◌+◌, ◌<◌, ◌≤◌, ◌^◌, List, [], ◌∷◌, length, Some, Bool, true, false, refl, sym, ap, subst, ◌∙◌, arith}
+use Rattle.std.proofs.Common.{◌≡◌, ◌⊎◌, inl, inr, ℕ, zero, suc, ◌+◌, ◌<◌, ◌≤◌, ◌^◌, List, [], ◌∷◌, length, Some, Bool, true, false, refl, sym, ap, subst, ◌∙◌, arith}
 use Rattle.std.specs.Prelude.{map, filter, reverse, nat_eq, nat_le, slice_get}
 use Rattle.std.specs.List.{AllByRecursion, range_with_len}
 use Rattle.std.proofs.lemmas.Bool.{eq-eqb, eqb-true, leb-true, leb-false}
@@ -21,7 +21,7 @@ use Rattle.gor_text.specs.LineAnswers.{LineAnswers}
 use Rattle.gor_text.specs.Transcripts.{Served, Printed, Rises, StandsIn, IsPrinted, before_number, printed_from}
 use Rattle.gor_text.specs.Interleaved.{of_lane}
 use Rattle.gor_text.specs.OneText.{call_at_rest, event_at_rest, IsSameHistory}
-use Rattle.gor_text.specs.OneHistory.{HasNames, HasFewLanes, OneHistory}
+use Rattle.gor_text.specs.OneHistory.{HasNames, HasFewLanes, PrintsNames, OneHistory}
 use Rattle.gor_text.proofs.Interleavings.{all-filter, each-filter, filtered}
 use Rattle.gor_text.proofs.AtRest.{same_answer, same_slot}
 use Rattle.gor_text.proofs.Orders.{IsIn, in_contained, contained, all_in}
@@ -29,7 +29,8 @@ use Rattle.gor_text.proofs.Counted.{acts_of, Said, all_said, of_printed, each_wi
 use Rattle.gor_text.proofs.SameActs.{legal_at, before_more, same_event}
 use Rattle.gor_text.proofs.OneTexts.{before_all, length_map, length_range}
 use Rattle.gor_text.proofs.Decoded.{Told, told_of, CanBeTold, SealsInLine, reply_inside, one_told}
-use Rattle.gor_text.proofs.RowNames.{IsNamed, rows_named, seals_in_line, sealed_key}
+use Rattle.gor_text.proofs.RowNames.{IsNamed, NamesSeal, rows_named, seals_in_line, sealed_key}
+use Rattle.gor_text.proofs.SealFree.{SealsNothing, phases_free}
 use Rattle.gor_text.proofs.LaneCalls.{OwnsName, Paired, Meets, lines_meet}
 use Rattle.gor_text.proofs.LaneLines.{lane_lines, lane_map, lane_all, lane_said, phases_at}
 
@@ -71,27 +72,42 @@ filter_told lane (p ∷ ps) = by (nat_eq p.lane lane) refl (filter_told lane ps)
 
 -- ---- what a printed event is
 
-owns : (start : Start) (h : History) → ((key : List ℕ) → IsNamed key (row_after start (changes h) key)) → (c : Call) (r : Reply) → r ≡ answer start h c → OwnsName c r
-owns start h named (call.Seal key w) (reply.Seal name) is = sealed_key start h named key name w is
-owns start h named (call.Seal key w) _ is = tt
-owns start h named _ r is = tt
+owns : (start : Start) (h : History) (c : Call) (r : Reply) → NamesSeal start h c → r ≡ answer start h c → OwnsName c r
+owns start h (call.Seal key w) (reply.Seal name) named is = sealed_key start h key name w named is
+owns start h (call.Seal key w) _ named is = tt
+owns start h _ r named is = tt
 
-module _ (start : Start) (fits : IsStart start) (names : HasNames start) (G : History) (legal : Legal start G) where
-  before_named : (p : Printed) → StandsIn G p → (key : List ℕ) → IsNamed key (row_after start (changes (before_number p.number G)) key)
-  before_named p stands = rows_named start fits names (before_number p.number G) (legal_at start G p.number stands.event legal stands.at).0
+names_seal : (start : Start) (h : History) (c : Call) → (HasNames start → (key : List ℕ) → IsNamed key (row_after start (changes h) key)) → HasNames start ⊎ SealsNothing c → NamesSeal start h c
+names_seal start h (call.Seal key w) named (inl names) = named names key
+names_seal start h (call.Seal key w) named (inr free) = absurd free
+names_seal start h _ named either = tt
+
+-- an event of a history, which is no Seal where the start may have other names
+abbrev Sure : Start → History → Printed → Type 0
+Sure start G p = StandsIn G p × (HasNames start ⊎ SealsNothing p.call)
+
+all_sure : (start : Start) (G : History) (ps : List Printed) → AllByRecursion (StandsIn G) ps → HasNames start ⊎ AllByRecursion (λ p. SealsNothing p.call) ps → AllByRecursion (Sure start G) ps
+all_sure start G [] stands either = tt
+all_sure start G (p ∷ ps) stands (inl names) = ((stands.0, inl names), all_sure start G ps stands.1 (inl names))
+all_sure start G (p ∷ ps) stands (inr free) = ((stands.0, inr free.0), all_sure start G ps stands.1 (inr free.1))
+
+module _ (start : Start) (fits : IsStart start) (G : History) (legal : Legal start G) where
+  named : (p : Printed) → Sure start G p → NamesSeal start (before_number p.number G) p.call
+  named p sure =
+      names_seal start (before_number p.number G) p.call (λ names. rows_named start fits names (before_number p.number G) (legal_at start G p.number sure.0.event legal sure.0.at).0) sure.1
 
   answered : (p : Printed) → StandsIn G p → p.reply ≡ answer start (before_number p.number G) p.call
   answered p stands = sym stands.reply ∙ ((legal_at start G p.number stands.event legal stands.at).1.reply ∙ ap (answer start (before_number p.number G)) stands.call)
 
-  owned : (p : Printed) → StandsIn G p → OwnsName p.call p.reply
-  owned p stands = owns start (before_number p.number G) (before_named p stands) p.call p.reply (answered p stands)
+  owned : (p : Printed) → Sure start G p → OwnsName p.call p.reply
+  owned p sure = owns start (before_number p.number G) p.call p.reply (named p sure) (answered p sure.0)
 
-  can_be_told : (p : Printed) → StandsIn G p → CanBeTold (told_of p)
-  can_be_told p stands = reply_inside p.reply (subst SealsInLine (sym (answered p stands)) (seals_in_line start (before_number p.number G) (before_named p stands) p.call))
+  can_be_told : (p : Printed) → Sure start G p → CanBeTold (told_of p)
+  can_be_told p sure = reply_inside p.reply (subst SealsInLine (sym (answered p sure.0)) (seals_in_line start (before_number p.number G) p.call (named p sure)))
 
-  all_told : (ps : List Printed) → AllByRecursion (StandsIn G) ps → AllByRecursion CanBeTold (map told_of ps)
-  all_told [] stands = tt
-  all_told (p ∷ ps) stands = (can_be_told p stands.0, all_told ps stands.1)
+  all_told : (ps : List Printed) → AllByRecursion (Sure start G) ps → AllByRecursion CanBeTold (map told_of ps)
+  all_told [] sure = tt
+  all_told (p ∷ ps) sure = (can_be_told p sure.0, all_told ps sure.1)
 
 has_place : (G : History) (p : Printed) → StandsIn G p → p.number < length G
 has_place G p stands = let within : p.number < length (reverse G) = slice_get_within (reverse G) p.number stands.event stands.at in omega (arith, within, length-reverse G)
@@ -102,8 +118,9 @@ as_long start G printed is =
 
 -- ---- one shard
 
-module _ (shards shard : ℕ) (start : Start) (fits : IsStart start) (names : HasNames start) (H K : History) (served other : List (List (List Served)))
+module _ (shards shard : ℕ) (start : Start) (fits : IsStart start) (H K : History) (served other : List (List (List Served)))
     (first : IsPrinted start (printed_from shard 0 served) H) (second : IsPrinted start (printed_from shard 0 other) K)
+    (ours : AllByRecursion (Sure start H) (printed_from shard 0 served)) (theirs : AllByRecursion (Sure start K) (printed_from shard 0 other))
     (short : length H ≤ 2 ^ 64) (told : map told_of (printed_from shard 0 served) ≡ map told_of (printed_from shard 0 other))
     (lines : map (map (map (λ s. s.line))) served ≡ map (map (map (λ s. s.line))) other)
     (answers : AllByRecursion (AllByRecursion (AllByRecursion (λ s. LineAnswers shards s.line s.acts))) served) (replies : AllByRecursion (AllByRecursion (AllByRecursion (λ s. LineAnswers shards s.line s.acts))) other) where
@@ -122,22 +139,22 @@ module _ (shards shard : ℕ) (start : Start) (fits : IsStart start) (names : Ha
   one_number p q mine its is =
       decimal_injective p.number q.number (omega (arith, has_place H p mine, short)) (omega (arith, has_place K q its, lengths, short)) (ap (λ (t : Told). t.number) is)
 
-  pairs : (n : ℕ) → SameTo n → (ps qs : List Printed) → map told_of ps ≡ map told_of qs → AllByRecursion (StandsIn H) ps → AllByRecursion (StandsIn K) qs
+  pairs : (n : ℕ) → SameTo n → (ps qs : List Printed) → map told_of ps ≡ map told_of qs → AllByRecursion (Sure start H) ps → AllByRecursion (Sure start K) qs
       → Paired shard n (map of_printed ps) (map of_printed qs)
-  pairs n same [] qs is ours theirs = tt
-  pairs n same (p ∷ ps) [] is ours theirs = tt
-  pairs n same (p ∷ ps) (q ∷ qs) is ours theirs =
+  pairs n same [] qs is mine its = tt
+  pairs n same (p ∷ ps) [] is mine its = tt
+  pairs n same (p ∷ ps) (q ∷ qs) is mine its =
       let heads = heads_of (told_of p) (told_of q) (map told_of ps) (map told_of qs) is in
-      let number : p.number ≡ q.number = one_number p q ours.0 theirs.0 heads.0 in (
+      let number : p.number ≡ q.number = one_number p q mine.0.0 its.0.0 heads.0 in (
         record {
           shown = ap (λ (t : Told). t.reply) heads.0;
-          replies = λ less calls. answered start fits names H first.legal p ours.0
+          replies = λ less calls. answered start fits H first.legal p mine.0.0
               ∙ (same_answer start (before_number p.number H) (before_number p.number K) p.call q.call (same p.number less) calls
-              ∙ (ap (λ k. answer start (before_number k K) q.call) number ∙ sym (answered start fits names K second.legal q theirs.0)));
-          ours = owned start fits names H first.legal p ours.0;
-          theirs = owned start fits names K second.legal q theirs.0;
+              ∙ (ap (λ k. answer start (before_number k K) q.call) number ∙ sym (answered start fits K second.legal q its.0.0)));
+          ours = owned start fits H first.legal p mine.0;
+          theirs = owned start fits K second.legal q its.0;
         },
-        pairs n same ps qs heads.1 ours.1 theirs.1,
+        pairs n same ps qs heads.1 mine.1 its.1,
       )
 
   -- the event of the other history with the same number
@@ -150,38 +167,38 @@ module _ (shards shard : ℕ) (start : Start) (fits : IsStart start) (names : Ha
 
   find : (n : ℕ) (ps qs : List Printed) → map told_of ps ≡ map told_of qs → AllByRecursion (StandsIn H) ps → AllByRecursion (StandsIn K) qs → EachBefore (λ p q. p.number < q.number) ps
       → Meets shard n (map of_printed ps) (map of_printed qs) → (p : Printed) → IsIn ps p → p.number ≡ n → Found n p
-  find n [] qs is ours theirs rising meets p there at = absurd there
-  find n (x ∷ ps) [] is ours theirs rising meets p there at = absurd (let both : (told_of x ∷ map told_of ps) ≡ [] = is in cc)
-  find n (x ∷ ps) (q ∷ qs) is ours theirs rising meets p (inl same) at =
+  find n [] qs is mine its rising meets p there at = absurd there
+  find n (x ∷ ps) [] is mine its rising meets p there at = absurd (let both : (told_of x ∷ map told_of ps) ≡ [] = is in cc)
+  find n (x ∷ ps) (q ∷ qs) is mine its rising meets p (inl same) at =
       let heads = heads_of (told_of x) (told_of q) (map told_of ps) (map told_of qs) is in
       let number : x.number ≡ n = ap (λ (r : Printed). r.number) same ∙ at in
       let here = meets (omega (arith, number)) in record {
         it = q;
-        stands = theirs.0;
-        number = sym (one_number x q ours.0 theirs.0 heads.0) ∙ number;
+        stands = its.0;
+        number = sym (one_number x q mine.0 its.0 heads.0) ∙ number;
         lane = sym (ap (λ (r : Printed). r.lane) same) ∙ ap (λ (t : Told). t.lane) heads.0;
         calls = sym (ap (λ (r : Printed). call_at_rest r.call) same) ∙ here.0;
       }
-  find n (x ∷ ps) (q ∷ qs) is ours theirs rising meets p (inr there) at =
+  find n (x ∷ ps) (q ∷ qs) is mine its rising meets p (inr there) at =
       let heads = heads_of (told_of x) (told_of q) (map told_of ps) (map told_of qs) is in
       let less : x.number < p.number = all_in (λ r. x.number < r.number) ps p rising.0 there in
-      find n ps qs heads.1 ours.1 theirs.1 rising.1 (meets (omega (arith, less, at))).1 p there at
+      find n ps qs heads.1 mine.1 its.1 rising.1 (meets (omega (arith, less, at))).1 p there at
 
   -- the lines of a lane make the same calls
   lane_meets : (n : ℕ) → SameTo n → (lane : ℕ) → Meets shard n (map of_printed (filter (of_lane lane) (printed_from shard 0 served))) (map of_printed (filter (of_lane lane) (printed_from shard 0 other)))
   lane_meets n same lane =
-      let ours = lane_said shard 0 lane served in
-      let theirs = lane_said shard 0 lane other in
+      let said = lane_said shard 0 lane served in
+      let also = lane_said shard 0 lane other in
       let paired : Paired shard n (map of_printed (filter (of_lane lane) (printed_from shard 0 served))) (map of_printed (filter (of_lane lane) (printed_from shard 0 other))) =
       pairs n same (filter (of_lane lane) (printed_from shard 0 served)) (filter (of_lane lane) (printed_from shard 0 other))
       (filter_told lane (printed_from shard 0 served) ∙ (ap (filter (λ t. nat_eq t.lane lane)) told ∙ sym (filter_told lane (printed_from shard 0 other))))
-      (all-filter (StandsIn H) (of_lane lane) (printed_from shard 0 served) first.stands) (all-filter (StandsIn K) (of_lane lane) (printed_from shard 0 other) second.stands) in
+      (all-filter (Sure start H) (of_lane lane) (printed_from shard 0 served) ours) (all-filter (Sure start K) (of_lane lane) (printed_from shard 0 other) theirs) in
       let met : Meets shard n (all_said shard (acts_of (lane_lines lane served))) (all_said shard (acts_of (lane_lines lane other))) =
       lines_meet shard n shards (lane_lines lane served) (lane_lines lane other)
       (lane_map (λ (s : Served). s.line) lane served ∙ (ap (lane_lines lane) lines ∙ sym (lane_map (λ (s : Served). s.line) lane other)))
       (lane_all (λ s. LineAnswers shards s.line s.acts) lane served answers) (lane_all (λ s. LineAnswers shards s.line s.acts) lane other replies)
-      (subst (λ (a : List Said). Paired shard n a (all_said shard (acts_of (lane_lines lane other)))) ours (subst (λ (b : List Said). Paired shard n (map of_printed (filter (of_lane lane) (printed_from shard 0 served))) b) theirs paired)) in
-      subst (λ (a : List Said). Meets shard n a (map of_printed (filter (of_lane lane) (printed_from shard 0 other)))) (sym ours) (subst (λ (b : List Said). Meets shard n (all_said shard (acts_of (lane_lines lane served))) b) (sym theirs) met)
+      (subst (λ (a : List Said). Paired shard n a (all_said shard (acts_of (lane_lines lane other)))) said (subst (λ (b : List Said). Paired shard n (map of_printed (filter (of_lane lane) (printed_from shard 0 served))) b) also paired)) in
+      subst (λ (a : List Said). Meets shard n a (map of_printed (filter (of_lane lane) (printed_from shard 0 other)))) (sym said) (subst (λ (b : List Said). Meets shard n (all_said shard (acts_of (lane_lines lane served))) b) (sym also) met)
 
   lane_rises : (lane : ℕ) → EachBefore (λ p q. p.number < q.number) (filter (of_lane lane) (printed_from shard 0 served))
   lane_rises lane =
@@ -234,12 +251,22 @@ module _ (shards shard : ℕ) (start : Start) (fits : IsStart start) (names : Ha
   one_shard =
       ap (map event_at_rest) (sym (before_all H (length H) refl)) ∙ (all_same (length H) (omega arith) (length H) (omega arith) ∙ ap (map event_at_rest) (before_all K (length H) lengths))
 
+-- seals print names, or there are none
+sure_of : (shards : ℕ) (starts : ℕ → Start) (served : List (List (List Served))) → PrintsNames shards starts (map (map (map (λ s. s.line))) served)
+    → AllByRecursion (AllByRecursion (AllByRecursion (λ s. LineAnswers shards s.line s.acts))) served → (shard : ℕ) → shard < shards → (G : History) → IsPrinted (starts shard) (printed_from shard 0 served) G
+    → AllByRecursion (Sure (starts shard) G) (printed_from shard 0 served)
+sure_of shards starts served (inl names) answers shard below G printed = all_sure (starts shard) G (printed_from shard 0 served) printed.stands (inl (names shard below))
+sure_of shards starts served (inr plain) answers shard below G printed = all_sure (starts shard) G (printed_from shard 0 served) printed.stands (inr (phases_free shards shard 0 served answers plain))
+
 pub one_history : OneHistory
 one_history shards starts phases text some few lanes fits names t u short shard below =
-    one_shard shards shard (starts shard) (fits shard below) (names shard below) (t.histories shard) (u.histories shard) t.served u.served (t.printed shard below) (u.printed shard below)
-    (short shard below) (one_told shards t.served u.served few
+    let ours = sure_of shards starts t.served (subst (PrintsNames shards starts) (sym t.lines) names) t.answers in
+    let theirs = sure_of shards starts u.served (subst (PrintsNames shards starts) (sym u.lines) names) u.answers in
+    one_shard shards shard (starts shard) (fits shard below) (t.histories shard) (u.histories shard) t.served u.served (t.printed shard below) (u.printed shard below)
+    (ours shard below (t.histories shard) (t.printed shard below)) (theirs shard below (u.histories shard) (u.printed shard below)) (short shard below)
+    (one_told shards t.served u.served few
     (phases_at shards some t.served (subst HasFewLanes (sym t.lines) lanes) t.answers) (phases_at shards some u.served (subst HasFewLanes (sym u.lines) lanes) u.answers)
-    (λ q under. all_told (starts q) (fits q under) (names q under) (t.histories q) (t.printed q under).legal (printed_from q 0 t.served) (t.printed q under).stands)
-    (λ q under. all_told (starts q) (fits q under) (names q under) (u.histories q) (u.printed q under).legal (printed_from q 0 u.served) (u.printed q under).stands)
+    (λ q under. all_told (starts q) (fits q under) (t.histories q) (t.printed q under).legal (printed_from q 0 t.served) (ours q under (t.histories q) (t.printed q under)))
+    (λ q under. all_told (starts q) (fits q under) (u.histories q) (u.printed q under).legal (printed_from q 0 u.served) (theirs q under (u.histories q) (u.printed q under)))
     (sym t.written ∙ u.written) shard)
     (t.lines ∙ sym u.lines) t.answers u.answers

@@ -96,7 +96,12 @@ rows_named start fits named (e ∷ H) legal key = by (changed e.call e.reply) re
 name_inside : (name : List ℕ) → IsName name → IsInside name
 name_inside name is = all-map (λ byte. (33 ≤ byte) × (byte ≢ 127)) IsInLine (λ byte plain. omega (arith, plain.0)) name is.plain
 
-module _ (start : Start) (H : History) (named : (key : List ℕ) → IsNamed key (row_after start (changes H) key)) where
+-- the key that is sealed has a name
+abbrev pub NamesSeal : Start → History → Call → Type 0
+NamesSeal start H (call.Seal key w) = IsNamed key (row_after start (changes H) key)
+NamesSeal start H _ = Unit {0}
+
+module _ (start : Start) (H : History) where
   put_seals : (time : ℕ) (last : Option ℕ) → SealsInLine (put_after start H time last)
   put_seals time None = tt
   put_seals time (Some last) = cond_both (nat_le time last) (reply.Late last) (reply.Stored (is_due H)) SealsInLine (λ e. tt) (λ e. tt)
@@ -114,25 +119,25 @@ module _ (start : Start) (H : History) (named : (key : List ℕ) → IsNamed key
   seal_is key None named = tt
   seal_is key (Some row) named = name_inside row.name named.0
 
-  pub seals_in_line : (c : Call) → SealsInLine (answer start H c)
-  seals_in_line (call.Put name key time word) = unless_seals (answer_put start H time (row_after start (changes H) key)) (answer_seals time (row_after start (changes H) key))
-  seals_in_line (call.Get key from to) = by (row_after start (changes H) key) where
+  pub seals_in_line : (c : Call) → NamesSeal start H c → SealsInLine (answer start H c)
+  seals_in_line (call.Put name key time word) named = unless_seals (answer_put start H time (row_after start (changes H) key)) (answer_seals time (row_after start (changes H) key))
+  seals_in_line (call.Get key from to) named = by (row_after start (changes H) key) where
     by : (o : Option Row) → SealsInLine (answer_get from to o)
     by None = tt
     by (Some row) = tt
-  seals_in_line (call.Del key) = unless_seals (answer_del (row_after start (changes H) key)) (by (row_after start (changes H) key)) where
+  seals_in_line (call.Del key) named = unless_seals (answer_del (row_after start (changes H) key)) (by (row_after start (changes H) key)) where
     by : (o : Option Row) → SealsInLine (answer_del o)
     by None = tt
     by (Some row) = tt
-  seals_in_line (call.Floor w) = unless_seals _
+  seals_in_line (call.Floor w) named = unless_seals _
       (cond_both (nat_le (window_end w) (shard_floor start (changes H))) (reply.Sealed (shard_floor start (changes H))) (reply.Floor (window_end w)) SealsInLine (λ e. tt) (λ e. tt))
-  seals_in_line (call.Seal key w) = seal_is key (row_after start (changes H) key) (named key)
-  seals_in_line call.Take = unless_seals (reply.Take (length (changes (since_take H)))) tt
-  seals_in_line (call.Done w at) = tt
-  seals_in_line call.Stop = tt
+  seals_in_line (call.Seal key w) named = seal_is key (row_after start (changes H) key) named
+  seals_in_line call.Take named = unless_seals (reply.Take (length (changes (since_take H)))) tt
+  seals_in_line (call.Done w at) named = tt
+  seals_in_line call.Stop named = tt
 
-  pub sealed_key : (key name : List ℕ) (w : ℕ) → reply.Seal name ≡ answer start H (call.Seal key w) → key ≡ key_of name
-  sealed_key key name w is = by (row_after start (changes H) key) (named key) is where
+  pub sealed_key : (key name : List ℕ) (w : ℕ) → NamesSeal start H (call.Seal key w) → reply.Seal name ≡ answer start H (call.Seal key w) → key ≡ key_of name
+  sealed_key key name w named is = by (row_after start (changes H) key) named is where
     by : (o : Option Row) → IsNamed key o → reply.Seal name ≡ answer_seal o → key ≡ key_of name
     by None here is = absurd (let both : reply.Seal name ≡ reply.Absent = is in cc)
     by (Some row) here is = here.1 ∙ ap key_of (let same : reply.Seal name ≡ reply.Seal row.name = is in sym (let two : name ≡ row.name = cc in two))
