@@ -1,5 +1,5 @@
 //! Whole runs and dumps on real folders.
-ghost use Rattle.std.specs.Prelude.{◌≡◌, length, None};
+ghost use Rattle.std.specs.Prelude.{◌≡◌, ◌<◌, ◌^◌, length, None};
 
 use crate::watched::{Call, NO_PLAN, Watched};
 use gor_disk::{Disk, FileId};
@@ -156,12 +156,15 @@ struct Mover {
     to: &'static str,
     text: Vec<u8>,
     faults: u64,
+    ghost in_range: { faults < 2 ^ 64 },
 }
 
 impl Sink for Mover {
     ghost held = { λ _. None };
 
     ghost faults = { λ s. s.faults };
+
+    ghost faults_fit = { λ s. s.in_range };
 
     fn write(&mut self, piece: &[u8]) -> Result<usize, Failed> {
         if self.text.is_empty() {

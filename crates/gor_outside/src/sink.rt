@@ -1,4 +1,4 @@
-ghost use Rattle.std.specs.Prelude.{◌≡◌, ◌+◌, ◌≤◌, ◌<◌, List, Option, Some, ℕ, length, take, min, OnErr, OnOk, IfOk, Contains, [], ◌++◌};
+ghost use Rattle.std.specs.Prelude.{◌≡◌, ◌+◌, ◌^◌, ◌≤◌, ◌<◌, List, Option, Some, ℕ, length, take, min, OnErr, OnOk, IfOk, Contains, [], ◌++◌};
 ghost use Rattle.std.specs.Io.{WritesAtMost};
 ghost use Rattle.std.specs.Io.KnownBytes.{WriteAppends};
 ghost use Rattle.gor_outside.specs.Causes.{HasCause};
@@ -22,6 +22,9 @@ pub trait Sink {
         ensures some { 0 < length piece.now → IfOk result (λ n. 0 < n) }
         ensures bytes { WriteAppends (held self.old) (held self.new) result piece.now }
         ensures cause { HasCause (faults self.old) (faults self.new) result };
+
+    /// The count of faults fits 64 bits.
+    ghost faults_fit: { (sink : Self) → faults sink < 2 ^ 64 };
 }
 
 /// A sink that keeps what it is given, takes a few bytes a call, and fails where it was told to or cannot grow.
@@ -33,6 +36,7 @@ pub struct MemorySink {
     calls: u64,
     faults: u64,
     ghost some: { 1 ≤ piece },
+    ghost in_range: { faults < 2 ^ 64 },
 }
 
 impl MemorySink {
@@ -74,6 +78,8 @@ impl Sink for MemorySink {
     ghost held = { λ s. Some s.held.items };
 
     ghost faults = { λ s. s.faults };
+
+    ghost faults_fit = { λ s. s.in_range };
 
     fn write(&mut self, piece: &[u8]) -> Result<usize, Failed>
         ensures bound { WritesAtMost result piece.now }

@@ -26,6 +26,9 @@ pub trait Source {
         ensures bytes { ReadConsumes (left self.old) (left self.new) result buf.new }
         ensures turn { reads self.new ≤ reads self.old + 1 }
         ensures cause { HasCause (faults self.old) (faults self.new) result };
+
+    /// The count of faults fits 64 bits.
+    ghost faults_fit: { (source : Self) → faults source < 2 ^ 64 };
 }
 
 /// A source that gives the bytes that it was made of, a few a call, and fails where it was told to.
@@ -39,6 +42,7 @@ pub struct MemorySource {
     faults: u64,
     ghost within: { at ≤ length bytes.items },
     ghost some: { 1 ≤ piece },
+    ghost in_range: { faults < 2 ^ 64 },
 }
 
 impl MemorySource {
@@ -93,6 +97,8 @@ impl Source for MemorySource {
     ghost faults = { λ s. s.faults };
 
     ghost reads = { λ s. s.calls };
+
+    ghost faults_fit = { λ s. s.in_range };
 
     fn read(&mut self, buf: &mut [u8]) -> Result<usize, Failed>
         ensures bound { ReadsAtMost result buf.new }

@@ -1,5 +1,5 @@
 //! Runs and dumps of a store in folders.
-ghost use Rattle.std.specs.Prelude.{◌≡◌, length, None};
+ghost use Rattle.std.specs.Prelude.{◌≡◌, ◌<◌, ◌^◌, length, None};
 
 use crate::dumps::{KEYS, LOG, MARKS, TEXT};
 use crate::machine::Fails::Nothing;
@@ -176,12 +176,15 @@ struct Watcher {
     file: &'static str,
     lengths: Vec<u64>,
     faults: u64,
+    ghost in_range: { faults < 2 ^ 64 },
 }
 
 impl Sink for Watcher {
     ghost held = { λ _. None };
 
     ghost faults = { λ s. s.faults };
+
+    ghost faults_fit = { λ s. s.in_range };
 
     fn write(&mut self, piece: &[u8]) -> Result<usize, Failed> {
         if let Ok(found) = fs::metadata(&self.rt, self.file)

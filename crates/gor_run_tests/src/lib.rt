@@ -7,12 +7,16 @@
 //! - `texts`: the numbers and texts of the statuses.
 //! - `stops`: stops of the machine, a disk that fails, and what the files then hold.
 //! - `restarts`: runs one after another.
+//! - `composed`: a run on what a stop of another one left, at each moment.
 //! - `lanes`: lanes beside each other.
+//! - `pauses`: which reads pause, and what they are told.
 //! - `folders`: runs and dumps on real folders.
 #![tactic(auto)]
 
 #[cfg(test)]
 mod answers;
+#[cfg(test)]
+mod composed;
 #[cfg(test)]
 mod dumps;
 #[cfg(test)]
@@ -21,6 +25,8 @@ mod folders;
 mod lanes;
 #[cfg(test)]
 mod machine;
+#[cfg(test)]
+mod pauses;
 #[cfg(test)]
 mod restarts;
 #[cfg(test)]

@@ -258,7 +258,7 @@ fn stop_at_each<R: AllocGlobal + Threads + Wait + Sync + Abort>(
 }
 
 /// The disk after a step on an empty one.
-fn disk_after<R: AllocGlobal + Threads + Wait + Sync + Abort>(
+pub fn disk_after<R: AllocGlobal + Threads + Wait + Sync + Abort>(
     rt: &R,
     step: Step,
 ) -> Result<MemoryDisk, AllocError> {

@@ -1,6 +1,6 @@
 -- A workload of one lane: its acts have the numbers 0, 1, 2, .. of each shard in the order of the text.
-use Rattle.std.proofs.Common.{◌≡◌, ◌≢◌, ◌⊎◌, inl, inr, ℕ, zero, suc, ◌+◌, ◌<◌, ◌≤◌, List, [], ◌∷◌, ◌++◌, length, Some, Bool, true, false, refl, sym, ap, subst, ◌∙◌, arith}
-use Rattle.std.specs.Prelude.{map, flat_map, reverse, nat_eq, slice_get, IsPermutation, if◌then◌else◌}
+use Rattle.std.proofs.Common.{◌≡◌, ◌≢◌, ◌⊎◌, inl, inr, ℕ, zero, suc, ◌+◌, ◌<◌, List, [], ◌∷◌, ◌++◌, length, Some, Bool, true, false, refl, sym, ap, subst, ◌∙◌, arith}
+use Rattle.std.specs.Prelude.{map, flat_map, reverse, nat_eq, slice_get, if◌then◌else◌}
 use Rattle.std.specs.List.{AllByRecursion, range_with_len}
 use Rattle.std.proofs.lemmas.Bool.{eq-eqb}
 use Rattle.std.proofs.lemmas.Bool.Decides.{eqb_tells}
@@ -12,9 +12,8 @@ use Rattle.gor_model.specs.declared.event.Reply.{Reply}
 use Rattle.gor_model.specs.declared.event.Event.{Event}
 use Rattle.gor_model.specs.declared.start.Start.{Start}
 use Rattle.gor_model.specs.Changes.{History}
-use Rattle.gor_text.specs.declared.workload.Line.{Line}
-use Rattle.gor_text.specs.LineAnswers.{Act, Made, Refused, MergedPoints, LineAnswers}
-use Rattle.gor_text.specs.Transcripts.{Served, Printed, Rises, StandsIn, IsPrinted, Transcript, act_text, lane_text, phase_text_from, text_of, printed_act, printed_line, printed_lanes, printed_from}
+use Rattle.gor_text.specs.LineAnswers.{Act, Made, Refused, MergedPoints}
+use Rattle.gor_text.specs.Transcripts.{Served, Printed, Rises, StandsIn, IsPrinted, act_text, lane_text, phase_text_from, text_of, printed_act, printed_line, printed_lanes, printed_from}
 use Rattle.gor_text.specs.OneText.{HasOnlyLane, IsOfOneLane}
 use Rattle.gor_text.proofs.Interleavings.{all-append, all-map}
 use Rattle.gor_text.proofs.Orders.{are_range}
@@ -62,10 +61,10 @@ said_act shard phase lane (MergedPoints points) = refl
 said_line : (shard phase lane : ℕ) (s : Served) → map of_printed (printed_line shard phase lane s) ≡ all_said shard s.acts
 said_line shard phase lane s = map_flat of_printed (printed_act shard phase lane) (said_by shard) (said_act shard phase lane) s.acts
 
-said_append : (shard : ℕ) (a b : List Served) → all_said shard (acts_of (a ++ b)) ≡ all_said shard (acts_of a) ++ all_said shard (acts_of b)
+pub said_append : (shard : ℕ) (a b : List Served) → all_said shard (acts_of (a ++ b)) ≡ all_said shard (acts_of a) ++ all_said shard (acts_of b)
 said_append shard a b = ap (all_said shard) (flat_map-append (λ (s : Served). s.acts) a b) ∙ flat_map-append (said_by shard) (acts_of a) (acts_of b)
 
-said_lines : (shard phase lane : ℕ) (lines : List Served) → map of_printed (flat_map (printed_line shard phase lane) lines) ≡ all_said shard (acts_of lines)
+pub said_lines : (shard phase lane : ℕ) (lines : List Served) → map of_printed (flat_map (printed_line shard phase lane) lines) ≡ all_said shard (acts_of lines)
 said_lines shard phase lane [] = refl
 said_lines shard phase lane (s ∷ lines) =
     map-append of_printed (printed_line shard phase lane s) (flat_map (printed_line shard phase lane) lines)
@@ -108,7 +107,7 @@ acts_lane shard phase lane [] = tt
 acts_lane shard phase lane (act ∷ acts) =
     all-append (λ p. p.lane ≡ lane) (printed_act shard phase lane act) (flat_map (printed_act shard phase lane) acts) (act_lane shard phase lane act) (acts_lane shard phase lane acts)
 
-lines_lane : (shard phase lane : ℕ) (lines : List Served) → AllByRecursion (λ p. p.lane ≡ lane) (flat_map (printed_line shard phase lane) lines)
+pub lines_lane : (shard phase lane : ℕ) (lines : List Served) → AllByRecursion (λ p. p.lane ≡ lane) (flat_map (printed_line shard phase lane) lines)
 lines_lane shard phase lane [] = tt
 lines_lane shard phase lane (s ∷ lines) =
     all-append (λ p. p.lane ≡ lane) (printed_line shard phase lane s) (flat_map (printed_line shard phase lane) lines) (acts_lane shard phase lane s.acts) (lines_lane shard phase lane lines)
@@ -180,7 +179,7 @@ one_lane_text lane (lanes ∷ phases) only =
 
 -- ---- the numbers are those of a range
 
-each_with : {X : Type 0} (R S : X → X → Type 0) (P : X → Type 0) → ((x y : X) → P x → P y → R x y → S x y) → (xs : List X) → AllByRecursion P xs → EachBefore R xs → EachBefore S xs
+pub each_with : {X : Type 0} (R S : X → X → Type 0) (P : X → Type 0) → ((x y : X) → P x → P y → R x y → S x y) → (xs : List X) → AllByRecursion P xs → EachBefore R xs → EachBefore S xs
 each_with R S P gives [] all each = tt
 each_with R S P gives (x ∷ xs) all each = (here xs all.1 each.0, each_with R S P gives xs all.1 each.1) where
   here : (ys : List _) → AllByRecursion P ys → AllByRecursion (λ y. R x y) ys → AllByRecursion (λ y. S x y) ys
@@ -195,7 +194,7 @@ each_of_map : {X Y : Type 0} (f : X → Y) (R : Y → Y → Type 0) (xs : List X
 each_of_map f R [] each = tt
 each_of_map f R (x ∷ xs) each = (all_of_map f (λ y. R (f x) y) xs each.0, each_of_map f R xs each.1)
 
-map_twice : {X Y Z : Type 0} (f : X → Y) (g : Y → Z) (xs : List X) → map g (map f xs) ≡ map (λ x. g (f x)) xs
+pub map_twice : {X Y Z : Type 0} (f : X → Y) (g : Y → Z) (xs : List X) → map g (map f xs) ≡ map (λ x. g (f x)) xs
 map_twice f g [] = refl
 map_twice f g (x ∷ xs) = ap (λ (ys : List _). g (f x) ∷ ys) (map_twice f g xs)
 

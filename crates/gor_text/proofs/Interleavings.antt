@@ -30,21 +30,21 @@ each-append R P Q between [] ys all more each later = later
 each-append R P Q between (x ∷ xs) ys all more each later =
     (all-append (λ y. R x y) xs ys each.0 (all-map Q (λ y. R x y) (λ y q. between x y all.0 q) ys more), each-append R P Q between xs ys all.1 more each.1 later)
 
-all-filter : {X : Type 0} (P : X → Type 0) (p : X → Bool) (xs : List X) → AllByRecursion P xs → AllByRecursion P (filter p xs)
+pub all-filter : {X : Type 0} (P : X → Type 0) (p : X → Bool) (xs : List X) → AllByRecursion P xs → AllByRecursion P (filter p xs)
 all-filter P p [] all = tt
 all-filter P p (x ∷ xs) all = at (p x) refl (all-filter P p xs all.1) where
   at : (b : Bool) → p x ≡ b → AllByRecursion P (filter p xs) → AllByRecursion P (filter p (x ∷ xs))
   at true is rest = rw is (all.0, rest)
   at false is rest = rw is rest
 
-each-filter : {X : Type 0} (R : X → X → Type 0) (p : X → Bool) (xs : List X) → EachBefore R xs → EachBefore R (filter p xs)
+pub each-filter : {X : Type 0} (R : X → X → Type 0) (p : X → Bool) (xs : List X) → EachBefore R xs → EachBefore R (filter p xs)
 each-filter R p [] each = tt
 each-filter R p (x ∷ xs) each = at (p x) refl (each-filter R p xs each.1) where
   at : (b : Bool) → p x ≡ b → EachBefore R (filter p xs) → EachBefore R (filter p (x ∷ xs))
   at true is rest = rw is (all-filter (λ y. R x y) p xs each.0, rest)
   at false is rest = rw is rest
 
-filtered : {X : Type 0} (P : X → Type 0) (p : X → Bool) → ((x : X) → p x ≡ true → P x) → (xs : List X) → AllByRecursion P (filter p xs)
+pub filtered : {X : Type 0} (P : X → Type 0) (p : X → Bool) → ((x : X) → p x ≡ true → P x) → (xs : List X) → AllByRecursion P (filter p xs)
 filtered P p gives [] = tt
 filtered P p gives (x ∷ xs) = at (p x) refl (filtered P p gives xs) where
   at : (b : Bool) → p x ≡ b → AllByRecursion P (filter p xs) → AllByRecursion P (filter p (x ∷ xs))

@@ -13,3 +13,9 @@ pub mod SameActs
 pub mod NoStops
 pub mod OneTexts
 pub mod ActAnswers
+pub mod Decoded
+pub mod RowNames
+pub mod SealFree
+pub mod LaneCalls
+pub mod LaneLines
+pub mod OneHistories

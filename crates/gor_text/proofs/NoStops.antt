@@ -1,6 +1,6 @@
 -- Where no history has a Stop, no act of the text is one.
-use Rattle.std.proofs.Common.{◌≡◌, ◌≢◌, ◌⊎◌, inl, inr, ℕ, suc, ◌<◌, ◌≤◌, List, [], ◌∷◌, ◌++◌, Some, None, Option, Bool, true, false, ◌||◌, refl, sym, ap, subst, ◌∙◌, arith, drop}
-use Rattle.std.specs.Prelude.{map, flat_map, reverse, nat_eq, slice_get}
+use Rattle.std.proofs.Common.{◌≡◌, ◌≢◌, ◌⊎◌, inl, inr, ℕ, suc, ◌<◌, List, [], ◌∷◌, ◌++◌, Some, None, Option, Bool, true, false, ◌||◌, refl, sym, ap, subst, ◌∙◌, drop}
+use Rattle.std.specs.Prelude.{reverse, nat_eq, slice_get}
 use Rattle.std.specs.List.{AllByRecursion}
 use Rattle.std.proofs.lemmas.Bool.{eq-eqb}
 use Rattle.std.proofs.lemmas.Bool.Decides.{eqb_tells}
@@ -16,20 +16,20 @@ use Rattle.gor_model.specs.Answers.{is_stop, is_stopped, answer, Legal}
 use Rattle.gor_text.specs.declared.workload.Line.{Line}
 use Rattle.gor_text.specs.LineAnswers.{Act, Made, Refused, MergedPoints, EndsTake, done, stopped, Flushes, taken, FollowsPut, Finishes, seal, FollowsFloor, Gets, none, refused, got, LineAnswers}
 use Rattle.gor_text.specs.LineAnswers as told
-use Rattle.gor_text.specs.Transcripts.{Served, Printed, StandsIn, IsPrinted, Transcript, before_number, printed_from}
+use Rattle.gor_text.specs.Transcripts.{Served, Printed, StandsIn, IsPrinted, before_number, printed_from}
 use Rattle.gor_text.specs.OneText.{StopsNothing}
-use Rattle.gor_text.proofs.Interleavings.{all-append, all-map}
-use Rattle.gor_text.proofs.Counted.{Said, said_by, all_said, acts_of, flat_phases, of_printed, said_phases, all_of_map}
+use Rattle.gor_text.proofs.Interleavings.{all-append}
+use Rattle.gor_text.proofs.Counted.{Said, all_said, acts_of, flat_phases, of_printed, said_phases, all_of_map}
 use Rattle.gor_text.proofs.SameActs.{history_at, legal_at, shard_below}
 
 -- ---- the acts of a line are of shards that are there
 
-abbrev IsBelow : ℕ → Act → Type 0
+abbrev pub IsBelow : ℕ → Act → Type 0
 IsBelow shards (Made s number call reply) = s < shards
 IsBelow shards (Refused why) = Unit {0}
 IsBelow shards (MergedPoints points) = Unit {0}
 
-abbrev AreBelow : ℕ → List Act → Type 0
+abbrev pub AreBelow : ℕ → List Act → Type 0
 AreBelow shards acts = AllByRecursion (IsBelow shards) acts
 
 module _ (shards : ℕ) where

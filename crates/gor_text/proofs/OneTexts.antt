@@ -1,23 +1,20 @@
 -- Two transcripts of a workload of one lane, without a Stop, are one text.
 use Rattle.std.proofs.Common.{◌≡◌, ℕ, zero, suc, ◌+◌, ◌<◌, List, [], ◌∷◌, ◌++◌, length, take, Bool, true, false, refl, sym, ap, subst, ◌∙◌, arith}
-use Rattle.std.specs.Prelude.{map, flat_map, reverse, nat_eq, if◌then◌else◌}
+use Rattle.std.specs.Prelude.{map, flat_map, reverse, nat_eq}
 use Rattle.std.specs.List.{AllByRecursion, range_with_len}
-use Rattle.std.proofs.lemmas.Bool.Decides.{eqb_tells}
-use Rattle.std.proofs.lemmas.List.{map-append, length-append, length-reverse}
-use Rattle.std.proofs.lemmas.Grind.{flat_map-append}
+use Rattle.std.proofs.lemmas.List.{map-append, length-reverse}
 use mathlib.Core.List.{reverse-reverse}
 use Rattle.gor_model.specs.declared.start.Start.{Start}
 use Rattle.gor_model.specs.Changes.{History}
 use Rattle.gor_model.specs.Starts.{IsStart}
 use Rattle.gor_model.specs.Answers.{Legal}
-use Rattle.gor_text.specs.declared.workload.Line.{Line}
 use Rattle.gor_text.specs.LineAnswers.{Act, Made, Refused, MergedPoints, LineAnswers}
-use Rattle.gor_text.specs.Transcripts.{Served, Transcript, act_text, before_number, FinishSeals, text_of}
+use Rattle.gor_text.specs.Transcripts.{Served, act_text, before_number, FinishSeals}
 use Rattle.gor_text.specs.OneText.{IsOfOneLane, StopsNothing, event_at_rest, IsSameHistory, OneText}
 use Rattle.gor_text.proofs.Interleavings.{all-append}
 use Rattle.gor_text.proofs.Counted.{flat_lanes, flat_phases, acts_of, all_said, Said, line_text, AreTold, counted, bumped, Tells, SayOn, tells-append, all_tell, all_are_told, one_lane_served, one_lane_text}
 use Rattle.gor_text.proofs.NoStops.{never_stops}
-use Rattle.gor_text.proofs.SameActs.{act_at_rest, counted_at_rest, counted-append, Agree, Same, line_same}
+use Rattle.gor_text.proofs.SameActs.{act_at_rest, counted_at_rest, counted-append, Agree, line_same}
 
 -- ---- what is so of the lines of all phases
 
@@ -63,11 +60,11 @@ counts ns shard (Made s number call reply ∷ acts) = by (nat_eq s shard) refl (
 counts ns shard (Refused why ∷ acts) = counts ns shard acts
 counts ns shard (MergedPoints points ∷ acts) = counts ns shard acts
 
-length_map : {X Y : Type 0} (f : X → Y) (xs : List X) → length (map f xs) ≡ length xs
+pub length_map : {X Y : Type 0} (f : X → Y) (xs : List X) → length (map f xs) ≡ length xs
 length_map f [] = refl
 length_map f (x ∷ xs) = ap suc (length_map f xs)
 
-length_range : (n count : ℕ) → length (range_with_len n count) ≡ count
+pub length_range : (n count : ℕ) → length (range_with_len n count) ≡ count
 length_range n zero = refl
 length_range n (suc count) = let rest = length_range (n + 1) count in omega (arith, rest)
 
@@ -78,7 +75,7 @@ take_whole : {X : Type 0} (xs : List X) → take (length xs) xs ≡ xs
 take_whole [] = refl
 take_whole (x ∷ xs) = ap (λ (ys : List _). x ∷ ys) (take_whole xs)
 
-before_all : (H : History) (n : ℕ) → n ≡ length H → before_number n H ≡ H
+pub before_all : (H : History) (n : ℕ) → n ≡ length H → before_number n H ≡ H
 before_all H n is = ap (λ k. reverse (take k (reverse H))) (is ∙ sym (length-reverse H)) ∙ (ap reverse (take_whole (reverse H)) ∙ reverse-reverse H)
 
 -- ---- line by line

@@ -1,29 +1,28 @@
 -- Lists in a strict order: those of the same elements are one list.
-use Rattle.std.proofs.Common.{◌≡◌, ◌⊎◌, inl, inr, ℕ, zero, suc, ◌+◌, ◌<◌, ◌≤◌, List, [], ◌∷◌, ◌++◌, length, refl, sym, ap, subst, ◌∙◌, arith}
-use Rattle.std.specs.Prelude.{map, slice_index_or, IsPermutation}
+use Rattle.std.proofs.Common.{◌≡◌, ◌⊎◌, inl, inr, ℕ, zero, suc, ◌+◌, ◌<◌, List, [], ◌∷◌, length, refl, sym, ap, subst, ◌∙◌, arith}
+use Rattle.std.specs.Prelude.{slice_index_or, IsPermutation}
 use Rattle.std.specs.List.{AllByRecursion, Contains, range_with_len}
 use Rattle.std.proofs.lemmas.List.Sorted.{Contains-permutation, IsPermutation-sym, IsPermutation-trans}
 use Rattle.gor_model.specs.Lists.{EachBefore}
 use Rattle.gor_model.specs.declared.point.Point.{Point}
 use Rattle.gor_model.specs.declared.point.Merged.{Merged}
 use Rattle.gor_model.specs.Merges.{ComesBefore, IsMerged, placed_from}
-use Rattle.gor_text.proofs.Interleavings.{all-map}
 
-abbrev IsIn : {X : Type 0} → List X → X → Type 0
+abbrev pub IsIn : {X : Type 0} → List X → X → Type 0
 IsIn [] x = ⊥
 IsIn (y ∷ ys) x = (y ≡ x) ⊎ IsIn ys x
 
-in_contained : {X : Type 0} (xs : List X) (x : X) (k : ℕ) → k < length xs → slice_index_or xs k x ≡ x → IsIn xs x
+pub in_contained : {X : Type 0} (xs : List X) (x : X) (k : ℕ) → k < length xs → slice_index_or xs k x ≡ x → IsIn xs x
 in_contained [] x k below is = absurd (omega (arith, below))
 in_contained (y ∷ ys) x zero below is = inl is
 in_contained (y ∷ ys) x (suc k) below is = inr (in_contained ys x k (omega (arith, below)) is)
 
-contained : {X : Type 0} (xs : List X) (x : X) → IsIn xs x → Contains xs x
+pub contained : {X : Type 0} (xs : List X) (x : X) → IsIn xs x → Contains xs x
 contained [] x there = absurd there
 contained (y ∷ ys) x (inl is) = (0, omega arith, is)
 contained (y ∷ ys) x (inr there) = let c = contained ys x there in (suc c.0, omega (arith, c.1), c.2)
 
-all_in : {X : Type 0} (P : X → Type 0) (xs : List X) (x : X) → AllByRecursion P xs → IsIn xs x → P x
+pub all_in : {X : Type 0} (P : X → Type 0) (xs : List X) (x : X) → AllByRecursion P xs → IsIn xs x → P x
 all_in P [] x all there = absurd there
 all_in P (y ∷ ys) x all (inl is) = subst P is all.0
 all_in P (y ∷ ys) x all (inr there) = all_in P ys x all.1 there

@@ -1,13 +1,12 @@
 -- Two tellings of one line after the same histories are the same, but for the moments of Dones.
-use Rattle.std.proofs.Common.{◌≡◌, ◌≢◌, ◌⊎◌, inl, inr, ℕ, zero, suc, ◌+◌, ◌<◌, ◌≤◌, List, [], ◌∷◌, ◌++◌, length, take, drop, Option, Some, None, Bool, true, false, refl, sym, ap, subst, ◌∙◌, arith, option_map}
+use Rattle.std.proofs.Common.{◌≡◌, ◌≢◌, ◌⊎◌, inl, inr, ℕ, zero, suc, ◌+◌, ◌<◌, ◌≤◌, List, [], ◌∷◌, ◌++◌, take, drop, Option, Some, None, Bool, true, false, refl, sym, ap, subst, ◌∙◌, arith, option_map}
 use Rattle.std.specs.Prelude.{map, flat_map, reverse, nat_eq, nat_le, slice_get, MatchOption, IfSome, max, if◌then◌else◌}
 use Rattle.std.specs.List.{AllByRecursion, cons_option}
 use Rattle.std.specs.Option.{option_to_list, option_and_then}
 use Rattle.std.specs.Str.{bytes_eq}
-use Rattle.std.proofs.lemmas.Bool.{eq-eqb, cond_both, le-leb, leb-true, leb-false}
+use Rattle.std.proofs.lemmas.Bool.{eq-eqb, leb-true, leb-false}
 use Rattle.std.proofs.lemmas.Bool.Decides.{eqb_tells}
 use Rattle.std.proofs.lemmas.List.{reverse-append, map-append}
-use Rattle.std.proofs.lemmas.Grind.{flat_map-append}
 use Rattle.std.proofs.Math.Nat.{mod-lt}
 use mathlib.Core.List.{reverse-cons, reverse-reverse}
 use Rattle.gor_model.specs.Lists.{EachBefore}
@@ -24,11 +23,11 @@ use Rattle.gor_model.specs.declared.event.Change.TheVariants as change
 use Rattle.gor_model.specs.declared.start.Row.{Row}
 use Rattle.gor_model.specs.declared.start.Start.{Start}
 use Rattle.gor_model.specs.Windows.{window_end}
-use Rattle.gor_model.specs.Names.{IsName, key_of, shard_of, fnv1a}
+use Rattle.gor_model.specs.Names.{key_of, shard_of, fnv1a}
 use Rattle.gor_model.specs.Starts.{IsStart}
 use Rattle.gor_model.specs.Changes.{History, changed, changes}
-use Rattle.gor_model.specs.PlainMap.{begun_row, row_after, shard_floor, slots_after}
-use Rattle.gor_model.specs.Answers.{is_stopped, answer, unless_stopped, slot_of_row, slot_touched, MayAsk, IsAnswered, Legal}
+use Rattle.gor_model.specs.PlainMap.{row_after, shard_floor, slots_after}
+use Rattle.gor_model.specs.Answers.{is_stopped, answer, slot_of_row, slot_touched, MayAsk, IsAnswered, Legal}
 use Rattle.gor_model.proofs.PlainMapLaws.{row_after-cons}
 use Rattle.gor_model.proofs.SlotLaws.{SlotsFit, slot_at, slots_fit, bytes_tell, no_stray_seals}
 use Rattle.gor_model.proofs.StartLaws.{start_fits}
@@ -36,12 +35,12 @@ use Rattle.gor_model.proofs.LegalLaws.{legal_fits}
 use Rattle.gor_text.specs.declared.answer.Reason.{Reason}
 use Rattle.gor_text.specs.declared.answer.Reason.TheVariants as reason
 use Rattle.gor_text.specs.declared.workload.Line.{Line}
-use Rattle.gor_text.specs.declared.workload.Line.TheVariants.{Put, Get, Del, Flush, Finish, Merge}
+use Rattle.gor_text.specs.declared.workload.Line.TheVariants.{Finish}
 use Rattle.gor_text.specs.LineAnswers.{Act, Made, Refused, MergedPoints, EndsTake, done, stopped, Flushes, taken, FollowsPut, Finishes, seal, FollowsFloor, points_of, Gets, none, refused, got, LineAnswers}
 use Rattle.gor_text.specs.LineAnswers as told
 use Rattle.gor_text.specs.Transcripts.{before_number, AllSealed, ClosesAll, sealed_slot, SlotsRise, FinishSeals}
 use Rattle.gor_text.specs.OneText.{call_at_rest, event_at_rest, IsSameHistory, StopsNothing}
-use Rattle.gor_text.proofs.Interleavings.{all-append, all-map}
+use Rattle.gor_text.proofs.Interleavings.{all-map}
 use Rattle.gor_text.proofs.AtRest.{same_answer, same_slot, same_changes}
 use Rattle.gor_text.proofs.Orders.{one_merge}
 use Rattle.gor_text.proofs.Counted.{IsToldAt, bumped, counted, Tells, tells-append}
@@ -61,7 +60,7 @@ take_more [] n x is = absurd (let both : None ≡ Some x = is in cc)
 take_more (y ∷ ys) zero x is = ap (λ z. z ∷ []) (some_same y x is)
 take_more (y ∷ ys) (suc n) x is = ap (λ (zs : List _). y ∷ zs) (take_more ys n x is)
 
-before_more : (H : History) (n : ℕ) (e : Event) → slice_get (reverse H) n ≡ Some e → before_number (n + 1) H ≡ e ∷ before_number n H
+pub before_more : (H : History) (n : ℕ) (e : Event) → slice_get (reverse H) n ≡ Some e → before_number (n + 1) H ≡ e ∷ before_number n H
 before_more H n e is =
     let next : n + 1 ≡ suc n = omega arith in
     ap (λ k. before_number k H) next ∙ (ap reverse (take_more (reverse H) n e is) ∙ reverse-append (take n (reverse H)) (e ∷ []))
@@ -81,7 +80,7 @@ history_at H n e is =
 pub legal_at : (start : Start) (H : History) (n : ℕ) (e : Event) → Legal start H → slice_get (reverse H) n ≡ Some e → Legal start (e ∷ before_number n H)
 legal_at start H n e legal is = legal_before start (reverse (drop (suc n) (reverse H))) (e ∷ before_number n H) (subst (Legal start) (history_at H n e is) legal)
 
-same_event : (e f : Event) → e.lane ≡ f.lane → e.slot ≡ f.slot → call_at_rest e.call ≡ call_at_rest f.call → e.reply ≡ f.reply → event_at_rest e ≡ event_at_rest f
+pub same_event : (e f : Event) → e.lane ≡ f.lane → e.slot ≡ f.slot → call_at_rest e.call ≡ call_at_rest f.call → e.reply ≡ f.reply → event_at_rest e ≡ event_at_rest f
 same_event e f lane slot call reply =
     ap (λ l. record { lane = l; slot = e.slot; call = call_at_rest e.call; reply = e.reply }) lane
     ∙ (ap (λ s. record { lane = f.lane; slot = s; call = call_at_rest e.call; reply = e.reply }) slot

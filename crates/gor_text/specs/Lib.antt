@@ -3,6 +3,7 @@ pub mod Dumps
 pub mod Grammar
 pub mod Interleaved
 pub mod LineAnswers
+pub mod OneHistory
 pub mod OneText
 pub mod Spelling
 pub mod Transcripts

@@ -9,7 +9,7 @@ use Rattle.gor_model.specs.Changes.{History}
 use Rattle.gor_model.specs.Starts.{IsStart}
 use Rattle.gor_model.specs.Answers.{is_stopped}
 use Rattle.gor_text.specs.declared.workload.Line.{Line}
-use Rattle.gor_text.specs.LineAnswers.{Act, Made, Refused, MergedPoints, LineAnswers}
+use Rattle.gor_text.specs.LineAnswers.{Act, Made, LineAnswers}
 use Rattle.gor_text.specs.Transcripts.{Transcript}
 
 -- in a phase no lane but this one has lines

@@ -1,5 +1,5 @@
 //! Standard input and output, as a source and a sink that count their faults.
-ghost use Rattle.std.specs.Prelude.{None};
+ghost use Rattle.std.specs.Prelude.{None, ◌<◌, ◌^◌};
 
 use gor_outside::{Failed, Sink, Source};
 use std::io::{Read, Write};
@@ -9,6 +9,7 @@ use std::io::{Read, Write};
 pub struct InputStream<R: Read> {
     reader: R,
     faults: u64,
+    ghost in_range: { faults < 2 ^ 64 },
 }
 
 impl<R: Read> InputStream<R> {
@@ -25,6 +26,8 @@ impl<R: Read> Source for InputStream<R> {
 
     ghost reads = { λ _. 0 };
 
+    ghost faults_fit = { λ s. s.in_range };
+
     fn read(&mut self, buf: &mut [u8]) -> Result<usize, Failed> {
         if let Ok(count) = self.reader.read(buf) {
             return Ok(count);
@@ -39,6 +42,7 @@ impl<R: Read> Source for InputStream<R> {
 pub struct OutputStream<W: Write> {
     writer: W,
     faults: u64,
+    ghost in_range: { faults < 2 ^ 64 },
 }
 
 impl<W: Write> OutputStream<W> {
@@ -52,6 +56,8 @@ impl<W: Write> Sink for OutputStream<W> {
     ghost held = { λ _. None };
 
     ghost faults = { λ s. s.faults };
+
+    ghost faults_fit = { λ s. s.in_range };
 
     fn write(&mut self, piece: &[u8]) -> Result<usize, Failed> {
         if let Ok(count) = self.writer.write(piece)
