@@ -42,11 +42,7 @@ fn write_whole<D: Disk>(disk: &mut D, file: FileId, bytes: &[u8]) -> Result<(), 
 /// No other file is touched. So at each moment of the call, and after it, an image whose marks are of earlier windows holds
 /// what it did before, and stays fit. After `Ok` the file has these bytes and nothing else, and they are stable. `DeviceFault`
 /// comes only where the disk's count of faults rose; the file may then hold anything, and the same call may be made again.
-pub fn write_blocks<D: Disk>(
-    disk: &mut D,
-    window: u32,
-    bytes: &[u8],
-) -> Result<(), DeviceFault>
+pub fn write_blocks<D: Disk>(disk: &mut D, window: u32, bytes: &[u8]) -> Result<(), DeviceFault>
     ensures touched { IsTrue D.tells → Touches (Block window) (λ bytes. ⊤) (D.view disk.old) (D.view disk.new) }
     ensures written { IsTrue D.tells → OnOk result (IsWritten (Block window) bytes.now (D.view disk.new)) }
     ensures kept { IsTrue D.tells → KeepsBeside (Block window) (D.view disk.old) (D.view disk.new) }
