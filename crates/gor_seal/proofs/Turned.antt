@@ -18,11 +18,10 @@ use Rattle.gor_image.specs.Laws.{IsBefore}
 use Rattle.gor_seal.specs.Turning.{CanTurn, TurnsAtOnce, HasTurned}
 use Rattle.gor_seal.proofs.Beside.{AreNamedAlike, alike_before, all_of}
 
--- the marks have the same list and are closed, and the other files are the same
-pub list_alike : (marks : List Mark) (given image : Contents) → gates (image Marks) ≡ gates (given Marks) → IsClosed (image Marks) → ((f : FileId) → f ≢ Marks → image f ≡ given f) → AreNamedAlike marks given image
-list_alike marks given image list closed others = record {
+-- the marks have the same list, and the other files are the same
+pub list_alike : (marks : List Mark) (given image : Contents) → gates (image Marks) ≡ gates (given Marks) → ((f : FileId) → f ≢ Marks → image f ≡ given f) → AreNamedAlike marks given image
+list_alike marks given image list others = record {
   list = list;
-  closed = closed;
   keys = others (Keys (current marks)) (λ e. absurd cc);
   logs = λ l low. others (Log l) (λ e. absurd cc);
   blocks = all_of (λ w. image (Block w) ≡ given (Block w)) (λ w. others (Block w) (λ e. absurd cc)) (live_windows marks);
@@ -52,7 +51,7 @@ module _ (body : List ℕ) (old new : DiskView) (stays : IsImage (held_now old M
 
       by_before : gates (image Marks) ≡ gates (old.seen Marks) → IsClosed (image Marks) → IsBefore shards shard image marks start C
       by_before list closed =
-          alike_before marks given image (list_alike marks given image (list ∙ ap gates (sym put)) closed rest) shards shard start C (can.before old.moment given (omega arith) (omega arith) was)
+          alike_before marks given image (list_alike marks given image (list ∙ ap gates (sym put)) rest) shards shard start C closed (can.before old.moment given (omega arith) (omega arith) was)
 
       pub by_either : IsOldOrNew (gates (old.seen Marks)) body (image Marks) → Either image
       by_either one = ⊎_elim (λ same. inl (by_before same one.closed)) (λ more. inr (by_after more one.closed)) one.list
