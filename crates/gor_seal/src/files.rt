@@ -40,8 +40,9 @@ fn write_whole<D: Disk>(disk: &mut D, file: FileId, bytes: &[u8]) -> Result<(), 
 /// Writes the block file of a window: it is cut to nothing, written by one write, and synced. It takes no memory.
 ///
 /// No other file is touched. So at each moment of the call, and after it, an image whose marks are of earlier windows recovers
-/// to what it did before, holds the same state, and stays fit. After `Ok` the file has these bytes and nothing else, and they are stable. `DeviceFault`
-/// comes only where the disk's count of faults rose; the file may then hold anything, and the same call may be made again.
+/// to what it did before, holds the same state, and stays fit. After `Ok` the file has these bytes and nothing else, and they
+/// are stable. `DeviceFault` comes only where the disk's count of faults rose; the file may then hold anything, and the same
+/// call may be made again.
 pub fn write_blocks<D: Disk>(disk: &mut D, window: u32, bytes: &[u8]) -> Result<(), DeviceFault>
     ensures touched { IsTrue D.tells → Touches (Block window) (λ bytes. ⊤) (D.view disk.old) (D.view disk.new) }
     ensures written { IsTrue D.tells → OnOk result (IsWritten (Block window) bytes.now (D.view disk.new)) }
@@ -56,8 +57,9 @@ pub fn write_blocks<D: Disk>(disk: &mut D, window: u32, bytes: &[u8]) -> Result<
 /// memory, and the frame keeps its body and its room.
 ///
 /// No other file is touched. So at each moment of the call, and after it, an image with fewer sealed marks than the number
-/// recovers to what it did before, holds the same state, and stays fit. After `Ok` the list is that body alone, and the file is ensured. `DeviceFault`
-/// comes only where the disk's count of faults rose; the file may then hold anything, and the same call may be made again.
+/// recovers to what it did before, holds the same state, and stays fit. After `Ok` the list is that body alone, and the file
+/// is ensured. `DeviceFault` comes only where the disk's count of faults rose; the file may then hold anything, and the same
+/// call may be made again.
 pub fn write_keys_file<D: Disk>(
     disk: &mut D,
     keys: u32,
@@ -82,8 +84,9 @@ pub fn write_keys_file<D: Disk>(
 /// Begins the log of this number with no batches: it is cut to nothing, gets a shut gate, and is synced. It takes no memory.
 ///
 /// No other file is touched. So at each moment of the call, and after it, an image with fewer sealed marks than the number
-/// recovers to what it did before, holds the same state, and stays fit. After `Ok` the list is empty, and the file is ensured. `DeviceFault` comes only
-/// where the disk's count of faults rose; the file may then hold anything, and the same call may be made again.
+/// recovers to what it did before, holds the same state, and stays fit. After `Ok` the list is empty, and the file is ensured.
+/// `DeviceFault` comes only where the disk's count of faults rose; the file may then hold anything, and the same call may be
+/// made again.
 pub fn begin_log<D: Disk>(disk: &mut D, log: u32) -> Result<Gated, DeviceFault>
     ensures file { IfOk result (λ r. r.file ≡ Log log) }
     ensures touched { IsTrue D.tells → Touches (Log log) (λ bytes. ⊤) (D.view disk.old) (D.view disk.new) }
