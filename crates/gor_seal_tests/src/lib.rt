@@ -2,6 +2,7 @@
 //!
 //! - `files`: the block file, the key list and the log, over what earlier finishes left in files of these names.
 //! - `marks`: the mark, appended to the marks of a store.
+//! - `turning`: all of them, one after another, by a caller over any disk.
 //! - `looks`: what a disk, or an image of it, has in a file.
 #![tactic(auto)]
 
@@ -11,3 +12,5 @@ mod files;
 mod looks;
 #[cfg(test)]
 mod marks;
+#[cfg(test)]
+mod turning;

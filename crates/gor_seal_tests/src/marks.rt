@@ -31,7 +31,7 @@ const CALLS: [Wanted; 4] = [
 ];
 
 /// The file of the marks on a disk where it is empty, made ready for its first mark by two calls.
-fn ready<D: Disk>(disk: &mut D) -> Option<Gated>
+pub fn ready<D: Disk>(disk: &mut D) -> Option<Gated>
     requires { IsTrue D.tells → (D.view disk.old).seen Marks ≡ [] }
     ensures file { IfSome result (λ gated. gated.file ≡ Marks) }
     ensures ensured { IsTrue D.tells → IfSome result (λ gated. IsEnsured gated (D.view disk.new)) }
