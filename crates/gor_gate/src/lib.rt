@@ -8,6 +8,7 @@
 //! - `bodies`: what reading a gated file gives, and why it may not.
 //! - `frames`: a body that is being made, with the room that an append needs around it.
 //! - `gated`: a gated file that was read, its end made sure, and bodies added to it.
+//! - `fresh`: a gated file that is empty, and its first body.
 //! - `reading`, `parsing`: the list of a file's bytes.
 //! - `appending`: the device calls of an append and of a shut gate.
 #![tactic(auto)]
@@ -15,6 +16,7 @@
 mod appending;
 mod bodies;
 mod frames;
+mod fresh;
 mod gated;
 mod parsing;
 mod reading;
