@@ -130,7 +130,12 @@ fn round<R: Clock>(
         return Err(Fault::Wrong);
     }
     let size = length_of_all(blocks)?;
-    Ok(Spent { write, copy: 0, read, size })
+    Ok(Spent {
+        write,
+        copy: 0,
+        read,
+        size,
+    })
 }
 
 fn rounds<R: Clock>(
@@ -155,7 +160,16 @@ fn measure_words<R: Clock>(rt: &R, alloc: Global, kind: Kind) -> Result<Row, Fau
     let spent = rounds(rt, alloc, kind, &mut blocks, &mut words)?;
     let points = POINTS as u64 * BLOCKS as u64;
     let bytes = tenths(spent.size, points * ROUNDS as u64);
-    Ok(Row::new(kind.label(), [bytes, tenths(spent.write, points), tenths(spent.read, points), 0, 0]))
+    Ok(Row::new(
+        kind.label(),
+        [
+            bytes,
+            tenths(spent.write, points),
+            tenths(spent.read, points),
+            0,
+            0,
+        ],
+    ))
 }
 
 /// Blocks of words of each kind.

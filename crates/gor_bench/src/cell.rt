@@ -227,7 +227,12 @@ fn round<R: Clock>(
     read_days(copies, wanted)?;
     let read = nanos_since(rt, begin)?;
     let size = bytes_of_all(alloc, cells)?;
-    Ok(Spent { write, copy, read, size })
+    Ok(Spent {
+        write,
+        copy,
+        read,
+        size,
+    })
 }
 
 fn rounds<R: Clock>(
@@ -254,7 +259,10 @@ fn measure_words<R: Clock>(rt: &R, alloc: Global, kind: Kind) -> Result<Row, Fau
     let points = DAY as u64 * days;
     let bytes = tenths(spent.size, points * ROUNDS as u64);
     let (copy, read) = (tenths(spent.copy, days), tenths(spent.read, days));
-    Ok(Row::new(kind.label(), [bytes, tenths(spent.write, points), copy, read, 0]))
+    Ok(Row::new(
+        kind.label(),
+        [bytes, tenths(spent.write, points), copy, read, 0],
+    ))
 }
 
 /// Days of words of each kind.

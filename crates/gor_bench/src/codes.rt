@@ -184,12 +184,7 @@ fn sum_of_codes(code: Code, numbers: &[u64]) -> u64 {
 }
 
 /// Writes and reads the codes of all blocks.
-fn round<R: Clock>(
-    rt: &R,
-    code: Code,
-    bits: &mut Bits,
-    numbers: &[u64],
-) -> Result<Spent, Fault> {
+fn round<R: Clock>(rt: &R, code: Code, bits: &mut Bits, numbers: &[u64]) -> Result<Spent, Fault> {
     bits.truncate(0);
     let begin = now(rt)?;
     push_codes(code, bits, numbers)?;
@@ -201,7 +196,12 @@ fn round<R: Clock>(
         return Err(Fault::Wrong);
     }
     let size = bits.len() as u64;
-    Ok(Spent { write, copy: 0, read, size })
+    Ok(Spent {
+        write,
+        copy: 0,
+        read,
+        size,
+    })
 }
 
 /// All rounds of the words of a kind, or of times that are late by what their words say.
@@ -218,7 +218,11 @@ fn rounds<R: Clock>(
     for number in 0..ROUNDS {
         series.fill(numbers, CODES)?;
         let first = number.saturating_mul(BLOCKS);
-        let code = if is_times { Code::Times { first } } else { Code::Words };
+        let code = if is_times {
+            Code::Times { first }
+        } else {
+            Code::Words
+        };
         spent = spent.with(round(rt, code, bits, numbers)?);
     }
     Ok(spent)
@@ -236,7 +240,16 @@ fn measure_codes<R: Clock>(
     let spent = rounds(rt, is_times, kind, &mut bits, &mut numbers)?;
     let codes = CODES as u64;
     let bits = tenths(spent.size, codes * ROUNDS as u64);
-    Ok(Row::new(label, [bits, tenths(spent.write, codes), tenths(spent.read, codes), 0, 0]))
+    Ok(Row::new(
+        label,
+        [
+            bits,
+            tenths(spent.write, codes),
+            tenths(spent.read, codes),
+            0,
+            0,
+        ],
+    ))
 }
 
 /// Times in two rows, on the minute and up to seven seconds late, and words of each kind.

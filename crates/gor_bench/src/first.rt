@@ -34,10 +34,22 @@ pub fn first_values(alloc: Global) -> Result<Vec<Value>, AllocError>
     let values = [
         Value::Other,
         Value::Other,
-        Value::Series { letter: 97, slot: 0 },
-        Value::Series { letter: 98, slot: 1 },
-        Value::Series { letter: 99, slot: 2 },
-        Value::Series { letter: 100, slot: 3 },
+        Value::Series {
+            letter: 97,
+            slot: 0,
+        },
+        Value::Series {
+            letter: 98,
+            slot: 1,
+        },
+        Value::Series {
+            letter: 99,
+            slot: 2,
+        },
+        Value::Series {
+            letter: 100,
+            slot: 3,
+        },
         Value::Other,
     ];
     Ok(Vec::from_array(alloc, values)?)

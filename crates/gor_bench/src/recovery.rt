@@ -88,12 +88,18 @@ fn measure_store<R: Clock>(
     let nanos = fastest_recovery(rt, alloc, &mut disk, place, windows)?;
     let points = points_of(windows);
     let rate = tenths(points.saturating_mul(1_000_000_000), nanos);
-    Ok(Row::new(label, [tenths(nanos, 1_000_000), tenths(nanos, points), rate, 0, 0]))
+    Ok(Row::new(
+        label,
+        [tenths(nanos, 1_000_000), tenths(nanos, points), rate, 0, 0],
+    ))
 }
 
 /// A log and block files, each with a hundred thousand points and with a million.
 pub fn measure<R: Clock>(rt: &R, alloc: Global) -> Result<Report, Fault> {
-    let mut report = Report::new("recovery", &["ms a recovery", "ns a point", "points a second"]);
+    let mut report = Report::new(
+        "recovery",
+        &["ms a recovery", "ns a point", "points a second"],
+    );
     report.add(measure_store(rt, alloc, "log, 100,000", Place::Log, SHORT)?);
     report.add(measure_store(rt, alloc, "log, 1,000,000", Place::Log, LONG)?);
     report.add(measure_store(rt, alloc, "blocks, 100,000", Place::Blocks, SHORT)?);

@@ -119,7 +119,16 @@ fn measure_lanes<R: Threads + Wait + Sync + Clock>(
     let (each_put, each_get) = (PUTS as u64, GETS as u64);
     let all_puts = tenths(put, each_put * lanes as u64);
     let all_gets = tenths(get, each_get * lanes as u64);
-    Ok(Row::new(label, [tenths(put, each_put), tenths(get, each_get), all_puts, all_gets, 0]))
+    Ok(Row::new(
+        label,
+        [
+            tenths(put, each_put),
+            tenths(get, each_get),
+            all_puts,
+            all_gets,
+            0,
+        ],
+    ))
 }
 
 /// One thread, then two and four with a name for each, then two and four with one name for all.

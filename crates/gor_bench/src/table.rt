@@ -198,7 +198,10 @@ fn measure_lanes<R: Threads + Wait + Sync + Clock>(
     let marked = fastest_turns(rt, alloc, lanes, is_shared, true)?;
     let turns = TURNS as u64;
     let all = tenths(marked, turns * lanes as u64);
-    Ok(Row::new(label, [tenths(bare, turns), tenths(marked, turns), all, 0, 0]))
+    Ok(Row::new(
+        label,
+        [tenths(bare, turns), tenths(marked, turns), all, 0, 0],
+    ))
 }
 
 /// One thread, then two and four with a series for each, then two and four with one series for all.
