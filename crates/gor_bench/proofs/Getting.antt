@@ -8,24 +8,22 @@ use Rattle.gor_model.proofs.EventLaws.{get_answered, get_touched, get_leaves}
 use Rattle.gor_rule.specs.declared.view.View.{View}
 use Rattle.gor_hall.specs.Steps.{HasMarked}
 use Rattle.gor_hall.proofs.Holding.{marked_stands}
-use Rattle.gor_plain.specs.declared.parts.Cell.{Cell}
-use Rattle.gor_plain.specs.declared.plain.Plain.TheVariants as plain
-use Rattle.gor_plain.specs.Plains.{plain_stands}
-use Rattle.gor_plain.specs.Puts.{Stands}
+use Rattle.gor_bench.specs.declared.first.Value.TheVariants as value
+use Rattle.gor_bench.specs.FourSeries.{row_of, value_stands, Stands}
 use Rattle.gor_bench.specs.Gets.{got}
 
-module _ (v : View) (lane s : ℕ) (cell : Cell) (sound : IsStart v.start) (legal : Legal v.start v.at) (low : s < v.start.slots) (held : v.held ≡ (s + 2) ∷ [])
-    (stands : Stands v (s + 2) (plain.Series cell)) where
+module _ (v : View) (lane s letter slot : ℕ) (sound : IsStart v.start) (legal : Legal v.start v.at) (low : s < v.start.slots) (held : v.held ≡ (s + 2) ∷ [])
+    (stands : Stands v (s + 2) (value.Series letter slot)) where
   abbrev e : Event
-  e = got lane s cell.key 1 0 cell.row
+  e = got lane s (letter ∷ []) 1 0 (row_of letter slot)
 
   pub may_get : ((o : ℕ) → Touches v.start v.at e o → Has v.held o) × IsAnswered v.start v.at e
   may_get = (
-    (λ o t. subst (λ z. Has z o) (sym held) (get_touched v.start sound v.at legal lane s cell.key 1 0 cell.row low stands o t)),
-    get_answered v.start sound v.at legal lane s cell.key 1 0 cell.row low stands,
+    (λ o t. subst (λ z. Has z o) (sym held) (get_touched v.start sound v.at legal lane s (letter ∷ []) 1 0 (row_of letter slot) low stands o t)),
+    get_answered v.start sound v.at legal lane s (letter ∷ []) 1 0 (row_of letter slot) low stands,
   )
 
-  pub stays : (w : View) (n : ℕ) → HasMarked v e n w → Stands w (s + 2) (plain.Series cell)
+  pub stays : (w : View) (n : ℕ) → HasMarked v e n w → Stands w (s + 2) (value.Series letter slot)
   stays w n m =
-      marked_stands plain_stands v w e n (s + 2) (plain.Series cell) m (subst (λ z. Has z (s + 2)) (sym held) (inl refl))
-      (get_leaves v.start sound v.at legal lane s cell.key 1 0 cell.row low stands (s + 2) ∙ stands)
+      marked_stands value_stands v w e n (s + 2) (value.Series letter slot) m (subst (λ z. Has z (s + 2)) (sym held) (inl refl))
+      (get_leaves v.start sound v.at legal lane s (letter ∷ []) 1 0 (row_of letter slot) low stands (s + 2) ∙ stands)

@@ -1,10 +1,12 @@
 -- A start with four series, and the values of its objects.
-use Rattle.std.specs.Prelude.{◌≡◌, ℕ, ◌+◌, List, [], ◌∷◌, length, false}
+use Rattle.std.specs.Prelude.{◌≡◌, ℕ, ◌+◌, List, [], ◌∷◌, Some, false, ⊤}
 use Rattle.gor_model.specs.declared.start.Row.{Row}
 use Rattle.gor_model.specs.declared.start.Start.{Start}
-use Rattle.gor_hall.specs.Openings.{AllStand}
-use Rattle.gor_plain.specs.declared.plain.Plain.{Plain}
-use Rattle.gor_plain.specs.Plains.{plain_stands}
+use Rattle.gor_model.specs.Shares.{Share, OfSlot}
+use Rattle.gor_model.specs.Objects.{share_of}
+use Rattle.gor_rule.specs.declared.view.View.{View}
+use Rattle.gor_bench.specs.declared.first.Value.{Value}
+use Rattle.gor_bench.specs.declared.first.Value.TheVariants as value
 
 -- a series with a letter for its name, and no point
 abbrev pub row_of : ℕ → ℕ → Row
@@ -24,6 +26,16 @@ four_series = record {
   fit = false;
 }
 
--- seven values, which stand for the shares of the empty history
-abbrev pub AreFirst : List Plain → Type 0
-AreFirst values = (length values ≡ 7) × AllStand plain_stands four_series values []
+-- the share of a slot is that of its series; of another object nothing is said
+abbrev pub value_stands : Start → ℕ → Value → Share → Type 0
+value_stands start o (value.Series letter slot) share = share ≡ OfSlot (Some (record { key = letter ∷ []; row = row_of letter slot }))
+value_stands start o value.Other share = ⊤
+
+-- the value stands for the object's share as the view has it
+abbrev pub Stands : View → ℕ → Value → Type 0
+Stands v o x = value_stands v.start o x (share_of v.start o v.at)
+
+-- seven values, of which four are those of the series
+abbrev pub AreFirst : List Value → Type 0
+AreFirst values =
+    values ≡ value.Other ∷ value.Other ∷ value.Series 97 0 ∷ value.Series 98 1 ∷ value.Series 99 2 ∷ value.Series 100 3 ∷ value.Other ∷ []

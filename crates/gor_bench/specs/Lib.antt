@@ -1,6 +1,5 @@
 pub mod FourSeries
 pub mod Gets
-pub mod Lanes
 pub mod Puts
 pub mod Steps
-pub mod Statuses
+pub mod Turns

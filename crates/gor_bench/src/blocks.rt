@@ -4,7 +4,7 @@ ghost use Rattle.gor_model.specs.Windows.{last_window};
 ghost use Rattle.gor_bench.specs.Steps.{IsBlockBefore};
 
 use crate::fault::Fault;
-use crate::report::{Report, Row, nanos_since, now};
+use crate::report::{Report, Row, Spent, nanos_since, now, tenths};
 use crate::words::{KINDS, Kind, Series};
 use gor_block::Block;
 use gor_model::{Point, Points, Unit};
@@ -18,39 +18,6 @@ const POINTS: usize = 120;
 const BLOCKS: u32 = 1000;
 
 const ROUNDS: u32 = 84;
-
-/// What the fastest round so far took each way, and the bytes of all blocks.
-#[derive(Clone, Copy)]
-struct Spent {
-    push: u64,
-    read: u64,
-    bytes: u64,
-}
-
-impl Spent {
-    fn new() -> Spent {
-        Spent {
-            push: u64::MAX,
-            read: u64::MAX,
-            bytes: 0,
-        }
-    }
-
-    fn add(&mut self, push: u64, read: u64, bytes: u64) {
-        self.push = self.push.min(push);
-        self.read = self.read.min(read);
-        self.bytes = self.bytes.saturating_add(bytes);
-    }
-
-    fn row(self, alloc: Global, label: &'static str) -> Result<Row, AllocError> {
-        let points = POINTS as u64 * BLOCKS as u64;
-        let mut row = Row::new(alloc, label);
-        row.add(self.bytes, points * ROUNDS as u64)?;
-        row.add(self.push, points)?;
-        row.add(self.read, points)?;
-        Ok(row)
-    }
-}
 
 /// Puts the point of a step of a block's window.
 #[tactic(auto, using(crate::proofs::BlockSteps::may_follow))]
@@ -73,15 +40,17 @@ pub fn time_of(window: u32, step: usize) -> u64
     window as u64 * 7200 + 60 * step as u64
 }
 
-/// A block of a window, with a point for each of its words and with zeros for words that are missing.
-fn block_of(alloc: Global, window: u32, words: &[u64]) -> Result<Block, AllocError>
+/// A block of a window, with a point for each of its words, of which there are at most 120.
+pub fn block_of(alloc: Global, window: u32, words: &[u64]) -> Result<Block, AllocError>
     requires { window ≤ last_window }
 {
     let mut block = Block::new(alloc, Unit::Second, window);
     let mut step = 0;
     while step < POINTS {
-        let word = words.get(step).copied().unwrap_or(0);
-        push_point(&mut block, window, step, word)?;
+        let Some(word) = words.get(step) else {
+            return Ok(block);
+        };
+        push_point(&mut block, window, step, *word)?;
         step += 1;
     }
     Ok(block)
@@ -134,50 +103,80 @@ pub fn bytes_of(block: &Block) -> Result<Vec<u8>, Fault> {
     Ok(block.to_bytes()?)
 }
 
-/// How many bytes a block is written in.
-fn length_of(block: &Block) -> Result<u64, Fault> {
-    Ok(bytes_of(block)?.len() as u64)
-}
-
+/// How many bytes all blocks are written in.
 fn length_of_all(blocks: &[Block]) -> Result<u64, Fault> {
     let mut length = 0u64;
     for block in blocks {
-        length = length.saturating_add(length_of(block)?);
+        length = length.saturating_add(bytes_of(block)?.len() as u64);
     }
     Ok(length)
+}
+
+/// Pushes and decodes all blocks.
+fn round<R: Clock>(
+    rt: &R,
+    alloc: Global,
+    blocks: &mut Vec<Block>,
+    words: &[u64],
+) -> Result<Spent, Fault> {
+    blocks.clear();
+    let begin = now(rt)?;
+    push_blocks(blocks, alloc, words)?;
+    let write = nanos_since(rt, begin)?;
+    let begin = now(rt)?;
+    let sum = read_blocks(blocks)?;
+    let read = nanos_since(rt, begin)?;
+    if sum != sum_of(words) {
+        return Err(Fault::Wrong);
+    }
+    let size = length_of_all(blocks)?;
+    Ok(Spent {
+        write,
+        copy: 0,
+        read,
+        size,
+    })
+}
+
+fn rounds<R: Clock>(
+    rt: &R,
+    alloc: Global,
+    kind: Kind,
+    blocks: &mut Vec<Block>,
+    words: &mut Vec<u64>,
+) -> Result<Spent, Fault> {
+    let mut series = Series::new(kind);
+    let mut spent = Spent::new();
+    for _ in 0..ROUNDS {
+        series.fill(words, POINTS * BLOCKS as usize)?;
+        spent = spent.with(round(rt, alloc, blocks, words)?);
+    }
+    Ok(spent)
 }
 
 fn measure_words<R: Clock>(rt: &R, alloc: Global, kind: Kind) -> Result<Row, Fault> {
     let mut words = Vec::new(alloc);
     let mut blocks = Vec::with_capacity(alloc, BLOCKS as usize)?;
-    let mut series = Series::new(kind);
-    let mut spent = Spent::new();
-    for _ in 0..ROUNDS {
-        series.fill(&mut words, POINTS * BLOCKS as usize)?;
-        blocks.clear();
-        let begin = now(rt)?;
-        push_blocks(&mut blocks, alloc, &words)?;
-        let pushed = nanos_since(rt, begin)?;
-        let begin = now(rt)?;
-        let sum = read_blocks(&blocks)?;
-        let read = nanos_since(rt, begin)?;
-        if sum != sum_of(&words) {
-            return Err(Fault::Wrong);
-        }
-        spent.add(pushed, read, length_of_all(&blocks)?);
-    }
-    Ok(spent.row(alloc, kind.label())?)
+    let spent = rounds(rt, alloc, kind, &mut blocks, &mut words)?;
+    let points = POINTS as u64 * BLOCKS as u64;
+    let bytes = tenths(spent.size, points * ROUNDS as u64);
+    Ok(Row::new(
+        kind.label(),
+        [
+            bytes,
+            tenths(spent.write, points),
+            tenths(spent.read, points),
+            0,
+            0,
+        ],
+    ))
 }
 
 /// Blocks of words of each kind.
 pub fn measure<R: Clock>(rt: &R, alloc: Global) -> Result<Report, Fault> {
-    let mut report = Report::new(
-        alloc,
-        "blocks",
-        &["bytes a point", "ns a push", "ns a point read"],
-    );
+    let mut report = Report::new("blocks", &["bytes a point", "ns a push", "ns a point read"]);
     for kind in KINDS {
-        report.add(measure_words(rt, alloc, kind)?)?;
+        report.add(measure_words(rt, alloc, kind)?);
     }
     Ok(report)
 }

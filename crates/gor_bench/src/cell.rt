@@ -4,14 +4,14 @@ ghost use Rattle.gor_model.specs.Windows.{greatest_time};
 
 use crate::blocks::{sum_of, sum_with, time_of};
 use crate::fault::Fault;
-use crate::report::{Report, Row, nanos_since, now};
+use crate::report::{Report, Row, Spent, nanos_since, now, tenths};
 use crate::words::{KINDS, Kind, Series};
 use gor_block::Block;
 use gor_cell::{Cell, CellPut, Copied, LiveCell};
 use gor_model::Unit;
 use gor_name::{Name, NameFault};
 use gor_ring::Ring;
-use std::alloc::{AllocError, Global};
+use std::alloc::Global;
 use std::mem::size_of;
 use std::time::Clock;
 
@@ -28,44 +28,6 @@ const CELLS: usize = 100;
 
 const ROUNDS: u32 = 20;
 
-/// What the fastest round so far took for all cells, and the bytes that the cells of all rounds lay in.
-#[derive(Clone, Copy)]
-struct Spent {
-    put: u64,
-    copy: u64,
-    read: u64,
-    bytes: u64,
-}
-
-impl Spent {
-    fn new() -> Spent {
-        Spent {
-            put: u64::MAX,
-            copy: u64::MAX,
-            read: u64::MAX,
-            bytes: 0,
-        }
-    }
-
-    fn add(&mut self, put: u64, copy: u64, read: u64, bytes: u64) {
-        self.put = self.put.min(put);
-        self.copy = self.copy.min(copy);
-        self.read = self.read.min(read);
-        self.bytes = self.bytes.saturating_add(bytes);
-    }
-
-    fn row(self, alloc: Global, label: &'static str) -> Result<Row, AllocError> {
-        let days = CELLS as u64;
-        let points = DAY as u64 * days;
-        let mut row = Row::new(alloc, label);
-        row.add(self.bytes, points * ROUNDS as u64)?;
-        row.add(self.put, points)?;
-        row.add(self.copy, days)?;
-        row.add(self.read, days)?;
-        Ok(row)
-    }
-}
-
 /// A live cell with no points, under the floor 0.
 fn cell_of(alloc: Global) -> Result<Cell, Fault> {
     let name = match Name::read(alloc, "load.of.one.machine") {
@@ -78,14 +40,13 @@ fn cell_of(alloc: Global) -> Result<Cell, Fault> {
     Ok(cell)
 }
 
-fn cells_of(alloc: Global) -> Result<Vec<Cell>, Fault> {
-    let mut cells = Vec::with_capacity(alloc, CELLS)?;
+/// New cells in place of those of the list.
+fn fill_cells(alloc: Global, cells: &mut Vec<Cell>) -> Result<(), Fault> {
+    cells.clear();
     for _ in 0..CELLS {
-        if cells.push(cell_of(alloc)?).is_err() {
-            return Err(Fault::Memory);
-        }
+        cells.push(cell_of(alloc)?)?;
     }
-    Ok(cells)
+    Ok(())
 }
 
 /// Makes room for a point, and puts it.
@@ -160,22 +121,22 @@ fn put_days<R: Clock>(rt: &R, cells: &mut [Cell], words: &[u64]) -> Result<u64, 
 }
 
 /// A copy of each cell's day.
-fn copy_days(alloc: Global, cells: &[Cell]) -> Result<Vec<Copied>, Fault> {
-    let mut copies = Vec::with_capacity(alloc, CELLS)?;
+fn copy_days(copies: &mut Vec<Copied>, cells: &[Cell]) -> Result<(), Fault> {
     for cell in cells {
         if !cell.is_live() {
             return Err(Fault::Wrong);
         }
-        if copies.push(cell.copy_range(0, 86_399)?).is_err() {
-            return Err(Fault::Memory);
-        }
+        copies.push(cell.copy_range(0, 86_399)?)?;
     }
-    Ok(copies)
+    Ok(())
 }
 
 /// Decodes each day, and compares it with what all days make.
-fn read_days(copies: Vec<Copied>, wanted: u64) -> Result<(), Fault> {
-    for copied in copies {
+fn read_days(copies: &mut Vec<Copied>, wanted: u64) -> Result<(), Fault> {
+    for _ in 0..CELLS {
+        let Some(copied) = copies.pop() else {
+            return Err(Fault::Wrong);
+        };
         if sum_with(&copied.points()?, 0) != wanted {
             return Err(Fault::Wrong);
         }
@@ -237,49 +198,76 @@ fn bytes_of(alloc: Global, cell: Cell) -> Result<u64, Fault> {
     )
 }
 
-fn bytes_of_all(alloc: Global, cells: Vec<Cell>) -> Result<u64, Fault> {
+fn bytes_of_all(alloc: Global, cells: &mut Vec<Cell>) -> Result<u64, Fault> {
     let mut bytes = 0u64;
-    for cell in cells {
+    for _ in 0..CELLS {
+        let Some(cell) = cells.pop() else {
+            return Err(Fault::Wrong);
+        };
         bytes = bytes.saturating_add(bytes_of(alloc, cell)?);
     }
     Ok(bytes)
 }
 
 /// One round: all cells are filled, copied, decoded and weighed.
-fn add_round<R: Clock>(
+fn round<R: Clock>(
     rt: &R,
     alloc: Global,
+    cells: &mut Vec<Cell>,
+    copies: &mut Vec<Copied>,
     words: &[u64],
-    spent: &mut Spent,
-) -> Result<(), Fault> {
-    let mut cells = cells_of(alloc)?;
-    let put = put_days(rt, &mut cells, words)?;
+) -> Result<Spent, Fault> {
+    fill_cells(alloc, cells)?;
+    let write = put_days(rt, cells, words)?;
     let begin = now(rt)?;
-    let copies = copy_days(alloc, &cells)?;
-    let copied = nanos_since(rt, begin)?;
+    copy_days(copies, cells)?;
+    let copy = nanos_since(rt, begin)?;
     let wanted = sum_of(words);
     let begin = now(rt)?;
     read_days(copies, wanted)?;
     let read = nanos_since(rt, begin)?;
-    spent.add(put, copied, read, bytes_of_all(alloc, cells)?);
-    Ok(())
+    let size = bytes_of_all(alloc, cells)?;
+    Ok(Spent {
+        write,
+        copy,
+        read,
+        size,
+    })
 }
 
-fn measure_words<R: Clock>(rt: &R, alloc: Global, kind: Kind) -> Result<Row, Fault> {
-    let mut words = Vec::new(alloc);
+fn rounds<R: Clock>(
+    rt: &R,
+    alloc: Global,
+    kind: Kind,
+    cells: &mut Vec<Cell>,
+    copies: &mut Vec<Copied>,
+    words: &mut Vec<u64>,
+) -> Result<Spent, Fault> {
     let mut series = Series::new(kind);
     let mut spent = Spent::new();
     for _ in 0..ROUNDS {
-        series.fill(&mut words, DAY)?;
-        add_round(rt, alloc, &words, &mut spent)?;
+        series.fill(words, DAY)?;
+        spent = spent.with(round(rt, alloc, cells, copies, words)?);
     }
-    Ok(spent.row(alloc, kind.label())?)
+    Ok(spent)
+}
+
+fn measure_words<R: Clock>(rt: &R, alloc: Global, kind: Kind) -> Result<Row, Fault> {
+    let (mut cells, mut copies, mut words) = (Vec::new(alloc), Vec::new(alloc), Vec::new(alloc));
+    let spent = rounds(rt, alloc, kind, &mut cells, &mut copies, &mut words)?;
+    let days = CELLS as u64;
+    let points = DAY as u64 * days;
+    let bytes = tenths(spent.size, points * ROUNDS as u64);
+    let (copy, read) = (tenths(spent.copy, days), tenths(spent.read, days));
+    Ok(Row::new(
+        kind.label(),
+        [bytes, tenths(spent.write, points), copy, read, 0],
+    ))
 }
 
 /// Days of words of each kind.
 pub fn measure<R: Clock>(rt: &R, alloc: Global) -> Result<Report, Fault> {
     let mut report = Report::new(
-        alloc,
         "cell",
         &[
             "bytes a point",
@@ -289,7 +277,7 @@ pub fn measure<R: Clock>(rt: &R, alloc: Global) -> Result<Report, Fault> {
         ],
     );
     for kind in KINDS {
-        report.add(measure_words(rt, alloc, kind)?)?;
+        report.add(measure_words(rt, alloc, kind)?);
     }
     Ok(report)
 }

@@ -3,7 +3,7 @@ ghost use Rattle.std.specs.Prelude.{◌≡◌, ◌+◌, ◌<◌, ◌≤◌};
 ghost use Rattle.gor_bench.specs.Steps.{IsBefore};
 
 use crate::fault::Fault;
-use crate::report::{Report, Row, nanos_since, now};
+use crate::report::{Report, Row, Spent, nanos_since, now, tenths};
 use crate::words::{KINDS, Kind, Series};
 use gor_bits::Bits;
 use gor_model::Unit;
@@ -20,43 +20,13 @@ const BLOCKS: u32 = 1000;
 
 const ROUNDS: u32 = 84;
 
+/// The codes of a round.
+const CODES: usize = 120_000;
+
 /// The most bits of a code of a time and of a word.
 const TIME_BITS: usize = 36;
 
 const WORD_BITS: usize = 77;
-
-/// What the fastest round so far took each way, and the bits that all of them wrote.
-#[derive(Clone, Copy)]
-struct Spent {
-    push: u64,
-    read: u64,
-    bits: u64,
-}
-
-impl Spent {
-    fn new() -> Spent {
-        Spent {
-            push: u64::MAX,
-            read: u64::MAX,
-            bits: 0,
-        }
-    }
-
-    fn add(&mut self, push: u64, read: u64, bits: u64) {
-        self.push = self.push.min(push);
-        self.read = self.read.min(read);
-        self.bits = self.bits.saturating_add(bits);
-    }
-
-    fn row(self, alloc: Global, label: &'static str) -> Result<Row, AllocError> {
-        let codes = POINTS as u64 * BLOCKS as u64;
-        let mut row = Row::new(alloc, label);
-        row.add(self.bits, codes * ROUNDS as u64)?;
-        row.add(self.push, codes)?;
-        row.add(self.read, codes)?;
-        Ok(row)
-    }
-}
 
 // ---- words
 
@@ -107,30 +77,6 @@ fn sum_of(numbers: &[u64]) -> u64 {
         sum = sum.rotate_left(1) ^ *number;
     }
     sum
-}
-
-fn measure_words<R: Clock>(rt: &R, alloc: Global, kind: Kind) -> Result<Row, Fault> {
-    let count = POINTS * BLOCKS as usize;
-    let mut words = Vec::new(alloc);
-    let mut bits = Bits::new(alloc);
-    bits.reserve(count * WORD_BITS)?;
-    let mut series = Series::new(kind);
-    let mut spent = Spent::new();
-    for _ in 0..ROUNDS {
-        series.fill(&mut words, count)?;
-        bits.truncate(0);
-        let begin = now(rt)?;
-        push_words(&mut bits, &words)?;
-        let pushed = nanos_since(rt, begin)?;
-        let begin = now(rt)?;
-        let sum = read_words(&bits)?;
-        let read = nanos_since(rt, begin)?;
-        if sum != sum_of(&words) {
-            return Err(Fault::Wrong);
-        }
-        spent.add(pushed, read, bits.len() as u64);
-    }
-    Ok(spent.row(alloc, kind.label())?)
 }
 
 // ---- times
@@ -207,47 +153,112 @@ fn sum_of_times(first: u32, lates: &[u64]) -> u64 {
     sum
 }
 
-fn measure_times<R: Clock>(
+// ---- rounds
+
+/// Which codes are measured. The times of a round stand in windows from a first one on.
+#[derive(Clone, Copy)]
+enum Code {
+    Times { first: u32 },
+    Words,
+}
+
+fn push_codes(code: Code, bits: &mut Bits, numbers: &[u64]) -> Result<(), AllocError> {
+    match code {
+        Code::Times { first } => push_times(bits, first, numbers),
+        Code::Words => push_words(bits, numbers),
+    }
+}
+
+fn read_codes(code: Code, bits: &Bits) -> Result<u64, Fault> {
+    match code {
+        Code::Times { first } => read_times(bits, first),
+        Code::Words => read_words(bits),
+    }
+}
+
+fn sum_of_codes(code: Code, numbers: &[u64]) -> u64 {
+    match code {
+        Code::Times { first } => sum_of_times(first, numbers),
+        Code::Words => sum_of(numbers),
+    }
+}
+
+/// Writes and reads the codes of all blocks.
+fn round<R: Clock>(rt: &R, code: Code, bits: &mut Bits, numbers: &[u64]) -> Result<Spent, Fault> {
+    bits.truncate(0);
+    let begin = now(rt)?;
+    push_codes(code, bits, numbers)?;
+    let write = nanos_since(rt, begin)?;
+    let begin = now(rt)?;
+    let sum = read_codes(code, bits)?;
+    let read = nanos_since(rt, begin)?;
+    if sum != sum_of_codes(code, numbers) {
+        return Err(Fault::Wrong);
+    }
+    let size = bits.len() as u64;
+    Ok(Spent {
+        write,
+        copy: 0,
+        read,
+        size,
+    })
+}
+
+/// All rounds of the words of a kind, or of times that are late by what their words say.
+fn rounds<R: Clock>(
+    rt: &R,
+    is_times: bool,
+    kind: Kind,
+    bits: &mut Bits,
+    numbers: &mut Vec<u64>,
+) -> Result<Spent, Fault> {
+    bits.reserve(CODES * WORD_BITS)?;
+    let mut series = Series::new(kind);
+    let mut spent = Spent::new();
+    for number in 0..ROUNDS {
+        series.fill(numbers, CODES)?;
+        let first = number.saturating_mul(BLOCKS);
+        let code = if is_times {
+            Code::Times { first }
+        } else {
+            Code::Words
+        };
+        spent = spent.with(round(rt, code, bits, numbers)?);
+    }
+    Ok(spent)
+}
+
+fn measure_codes<R: Clock>(
     rt: &R,
     alloc: Global,
     label: &'static str,
-    is_late: bool,
+    is_times: bool,
+    kind: Kind,
 ) -> Result<Row, Fault> {
-    let count = POINTS * BLOCKS as usize;
-    let mut lates = Vec::new(alloc);
+    let mut numbers = Vec::new(alloc);
     let mut bits = Bits::new(alloc);
-    bits.reserve(count * TIME_BITS)?;
-    let mut series = Series::new(if is_late {
-        Kind::Random
-    } else {
-        Kind::Constant
-    });
-    let mut spent = Spent::new();
-    for round in 0..ROUNDS {
-        series.fill(&mut lates, count)?;
-        bits.truncate(0);
-        let first = round.saturating_mul(BLOCKS);
-        let begin = now(rt)?;
-        push_times(&mut bits, first, &lates)?;
-        let pushed = nanos_since(rt, begin)?;
-        let begin = now(rt)?;
-        let sum = read_times(&bits, first)?;
-        let read = nanos_since(rt, begin)?;
-        if sum != sum_of_times(first, &lates) {
-            return Err(Fault::Wrong);
-        }
-        spent.add(pushed, read, bits.len() as u64);
-    }
-    Ok(spent.row(alloc, label)?)
+    let spent = rounds(rt, is_times, kind, &mut bits, &mut numbers)?;
+    let codes = CODES as u64;
+    let bits = tenths(spent.size, codes * ROUNDS as u64);
+    Ok(Row::new(
+        label,
+        [
+            bits,
+            tenths(spent.write, codes),
+            tenths(spent.read, codes),
+            0,
+            0,
+        ],
+    ))
 }
 
 /// Times in two rows, on the minute and up to seven seconds late, and words of each kind.
 pub fn measure<R: Clock>(rt: &R, alloc: Global) -> Result<Report, Fault> {
-    let mut report = Report::new(alloc, "codes", &["bits a code", "ns a push", "ns a read"]);
-    report.add(measure_times(rt, alloc, "times on the minute", false)?)?;
-    report.add(measure_times(rt, alloc, "times up to 7 s late", true)?)?;
+    let mut report = Report::new("codes", &["bits a code", "ns a push", "ns a read"]);
+    report.add(measure_codes(rt, alloc, "times on the minute", true, Kind::Constant)?);
+    report.add(measure_codes(rt, alloc, "times up to 7 s late", true, Kind::Random)?);
     for kind in KINDS {
-        report.add(measure_words(rt, alloc, kind)?)?;
+        report.add(measure_codes(rt, alloc, kind.label(), false, kind)?);
     }
     Ok(report)
 }

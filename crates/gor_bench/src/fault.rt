@@ -2,7 +2,7 @@ use std::alloc::{AllocError, AllocFailed};
 use thiserror::Error;
 
 /// Why nothing was measured, or not all.
-#[derive(Debug, Drop, Clone, Copy, PartialEq, Eq, Error)]
+#[derive(Debug, Drop, Clone, Copy, Error)]
 pub enum Fault {
     /// A word names no part.
     #[error("usage: gor_bench [codes|blocks|cell|table|shard|store|recovery]...")]
@@ -25,13 +25,8 @@ pub enum Fault {
 }
 
 impl Fault {
-    ghost use Rattle.std.specs.Prelude.{◌≡◌};
-    ghost use Rattle.gor_bench.specs.Statuses.{status_of};
-
     /// The number with which the process ends.
-    pub fn number(self) -> u8
-        ensures { result ≡ status_of self }
-    {
+    pub fn number(self) -> u8 {
         match self {
             Fault::Words => 2,
             Fault::Memory => 4,

@@ -1,5 +1,5 @@
 //! Stores of many series, laid down on a disk in memory by the writers of their files.
-ghost use Rattle.std.specs.Prelude.{◌≡◌, ◌*◌, ◌≤◌, IfOk, OnOk};
+ghost use Rattle.std.specs.Prelude.{◌≤◌, OnOk};
 ghost use Rattle.std.specs.List.{AllByRecursion};
 ghost use Rattle.gor_model.specs.Fields.{IsNumber};
 ghost use Rattle.gor_model.specs.Windows.{last_time_in};
@@ -8,10 +8,9 @@ ghost use Rattle.gor_keys.specs.Spelling.{InLimits as IsKey};
 ghost use Rattle.gor_log.specs.Spelling.{IsRecord};
 ghost use Rattle.gor_marks.specs.Spelling.{InLimits};
 
-use crate::blocks::{bytes_of, push_point};
+use crate::blocks::{block_of, bytes_of};
 use crate::fault::Fault;
-use crate::words::Series;
-use gor_block::Block;
+use crate::words::{Kind, Series};
 use gor_disk::{Disk, FileId, MemoryDisk};
 use gor_keys::{KeyRecord, write_keys};
 use gor_log::{LogBatch, LogRecord, write_log};
@@ -32,9 +31,7 @@ const BATCH: u16 = 4;
 const BATCHES: u8 = 25;
 
 /// The points of so many windows of all series.
-pub fn points_of(windows: u8) -> u64
-    ensures { result ≡ windows * 100000 }
-{
+pub fn points_of(windows: u8) -> u64 {
     windows as u64 * 100_000
 }
 
@@ -87,14 +84,19 @@ fn push_sealed(alloc: Global, file: &mut Vec<u8>, window: u8) -> Result<(), Faul
 }
 
 /// The marks of a store in which so many windows are sealed.
-fn marks_of(alloc: Global, windows: u8) -> Result<Vec<u8>, Fault> {
-    let mut file = Vec::new(alloc);
-    push_home(alloc, &mut file)?;
+fn push_marks(alloc: Global, file: &mut Vec<u8>, windows: u8) -> Result<(), Fault> {
+    push_home(alloc, file)?;
     for window in 0..windows {
-        push_sealed(alloc, &mut file, window)?;
+        push_sealed(alloc, file, window)?;
     }
     file.push(0)?;
-    Ok(file)
+    Ok(())
+}
+
+fn write_marks(alloc: Global, disk: &mut MemoryDisk, windows: u8) -> Result<(), Fault> {
+    let mut file = Vec::new(alloc);
+    push_marks(alloc, &mut file, windows)?;
+    write_file(disk, FileId::Marks, &file)
 }
 
 // ---- the key list
@@ -153,25 +155,36 @@ fn push_key(
     Ok(())
 }
 
-fn keys_of(alloc: Global, is_live: bool) -> Result<Vec<KeyRecord>, Fault>
-    ensures { IfOk result (λ records. AllByRecursion (IsKey Second) records.items) }
+fn push_keys(alloc: Global, records: &mut Vec<KeyRecord>, is_live: bool) -> Result<(), Fault>
+    requires { AllByRecursion (IsKey Second) records.old.items }
+    ensures { OnOk result (AllByRecursion (IsKey Second) records.new.items) }
 {
-    let mut records = Vec::new(alloc);
     for number in 0..SERIES {
-        push_key(alloc, &mut records, number, is_live)?;
+        push_key(alloc, records, number, is_live)?;
     }
-    Ok(records)
+    Ok(())
 }
 
-/// The key list of all series, in one body.
-fn key_list(alloc: Global, is_live: bool) -> Result<Vec<u8>, Fault> {
-    let records = keys_of(alloc, is_live)?;
-    let mut body = Vec::new(alloc);
-    write_keys(Unit::Second, &records, &mut body)?;
-    let mut file = Vec::new(alloc);
+/// The body of the key list of all series.
+fn push_list(alloc: Global, body: &mut Vec<u8>, is_live: bool) -> Result<(), Fault> {
+    let mut records = Vec::new(alloc);
+    push_keys(alloc, &mut records, is_live)?;
+    write_keys(Unit::Second, &records, body)?;
+    Ok(())
+}
+
+/// Writes the key list of all series, in one body.
+fn write_list(
+    alloc: Global,
+    disk: &mut MemoryDisk,
+    name: FileId,
+    is_live: bool,
+) -> Result<(), Fault> {
+    let (mut body, mut file) = (Vec::new(alloc), Vec::new(alloc));
+    push_list(alloc, &mut body, is_live)?;
     push_body(&mut file, &body)?;
     file.push(0)?;
-    Ok(file)
+    write_file(disk, name, &file)
 }
 
 // ---- the log
@@ -208,26 +221,16 @@ fn push_put(
     Ok(())
 }
 
-/// A put of each series.
-fn push_step(records: &mut Vec<LogRecord>, words: &mut Series, step: u16) -> Result<(), AllocError>
-    requires { AllByRecursion IsRecord records.old.items }
+/// The puts of a batch, a put of each series in each of its steps.
+fn push_puts(records: &mut Vec<LogRecord>, words: &mut Series, first: u16) -> Result<(), AllocError>
+    requires first { first ≤ 30000 }
+    requires records { AllByRecursion IsRecord records.old.items }
     ensures { OnOk result (AllByRecursion IsRecord records.new.items) }
 {
-    for number in 0..SERIES {
-        push_put(records, words, step, number)?;
+    for put in 0..BATCH * SERIES {
+        push_put(records, words, first + put / SERIES, put % SERIES)?;
     }
     Ok(())
-}
-
-fn puts_of(alloc: Global, words: &mut Series, first: u16) -> Result<Vec<LogRecord>, AllocError>
-    requires { first ≤ 30000 }
-    ensures { IfOk result (λ records. AllByRecursion IsRecord records.items) }
-{
-    let mut records = Vec::new(alloc);
-    for step in 0..BATCH {
-        push_step(&mut records, words, first + step)?;
-    }
-    Ok(records)
 }
 
 /// Adds a batch of a window: four puts of each series. The first batch of all has the change that begins each series.
@@ -240,57 +243,53 @@ fn push_batch(
 ) -> Result<(), Fault> {
     let step = window as u16 * STEPS + batch as u16 * BATCH;
     let before = step as u64 * SERIES as u64;
+    let mut records = Vec::new(alloc);
+    push_puts(&mut records, words, step)?;
     let batch = LogBatch {
         version: 1,
         first: before + 1,
         last: before + 4000,
-        records: puts_of(alloc, words, step)?,
+        records,
     };
     let mut body = Vec::new(alloc);
     write_log(&batch, &mut body)?;
     push_body(file, &body)
 }
 
-fn log_of(alloc: Global, words: &mut Series, windows: u8) -> Result<Vec<u8>, Fault> {
-    let mut file = Vec::new(alloc);
+fn push_log(alloc: Global, file: &mut Vec<u8>, windows: u8) -> Result<(), Fault> {
+    let mut words = Series::new(Kind::Gauge);
     for window in 0..windows {
         for batch in 0..BATCHES {
-            push_batch(alloc, &mut file, words, window, batch)?;
+            push_batch(alloc, file, &mut words, window, batch)?;
         }
     }
     file.push(0)?;
-    Ok(file)
+    Ok(())
+}
+
+fn write_batches(alloc: Global, disk: &mut MemoryDisk, windows: u8) -> Result<(), Fault> {
+    let mut file = Vec::new(alloc);
+    push_log(alloc, &mut file, windows)?;
+    write_file(disk, FileId::Log(0), &file)
 }
 
 /// A store all points of which stand in its log.
-pub fn lay_log(alloc: Global, words: &mut Series, windows: u8) -> Result<MemoryDisk, Fault> {
-    let mut disk = MemoryDisk::new(alloc);
-    write_file(&mut disk, FileId::Marks, &marks_of(alloc, 0)?)?;
-    write_file(&mut disk, FileId::Keys(0), &key_list(alloc, false)?)?;
-    write_file(&mut disk, FileId::Log(0), &log_of(alloc, words, windows)?)?;
-    Ok(disk)
+pub fn lay_log(alloc: Global, disk: &mut MemoryDisk, windows: u8) -> Result<(), Fault> {
+    write_marks(alloc, disk, 0)?;
+    write_list(alloc, disk, FileId::Keys(0), false)?;
+    write_batches(alloc, disk, windows)
 }
 
 // ---- block files
 
-fn block_of(alloc: Global, words: &mut Series, window: u8) -> Result<Block, Fault> {
-    let mut block = Block::new(alloc, Unit::Second, window as u32);
-    let mut step = 0;
-    while step < STEPS as usize {
-        push_point(&mut block, window as u32, step, words.word())?;
-        step += 1;
-    }
-    Ok(block)
-}
-
 fn add_block(
     alloc: Global,
     writer: &mut SlabWriter,
-    words: &mut Series,
     window: u8,
     number: u16,
+    words: &[u64],
 ) -> Result<(), Fault> {
-    let block = block_of(alloc, words, window)?;
+    let block = block_of(alloc, window as u32, words)?;
     let bytes = bytes_of(&block)?;
     if bytes.len() > u32::MAX as usize {
         return Err(Fault::Wrong);
@@ -299,34 +298,47 @@ fn add_block(
     Ok(())
 }
 
-/// The block file of a window, with a block of each series.
-fn block_file(alloc: Global, words: &mut Series, window: u8) -> Result<Vec<u8>, Fault> {
-    let mut writer = SlabWriter::new(alloc, Unit::Second);
+/// The blocks of a window, one of each series.
+fn add_blocks(
+    alloc: Global,
+    writer: &mut SlabWriter,
+    series: &mut Series,
+    words: &mut Vec<u64>,
+    window: u8,
+) -> Result<(), Fault> {
     for number in 0..SERIES {
-        add_block(alloc, &mut writer, words, window, number)?;
+        series.fill(words, STEPS as usize)?;
+        add_block(alloc, writer, window, number, words)?;
     }
-    Ok(writer.finish()?)
+    Ok(())
 }
 
-fn lay_windows(
+/// Writes the block file of a window.
+fn write_window(
     alloc: Global,
     disk: &mut MemoryDisk,
-    words: &mut Series,
-    windows: u8,
+    series: &mut Series,
+    words: &mut Vec<u64>,
+    window: u8,
 ) -> Result<(), Fault> {
+    let mut writer = SlabWriter::new(alloc, Unit::Second);
+    add_blocks(alloc, &mut writer, series, words, window)?;
+    let file = writer.finish()?;
+    write_file(disk, FileId::Block(window as u32), &file)
+}
+
+fn write_windows(alloc: Global, disk: &mut MemoryDisk, windows: u8) -> Result<(), Fault> {
+    let mut series = Series::new(Kind::Gauge);
+    let mut words = Vec::new(alloc);
     for window in 0..windows {
-        let file = block_file(alloc, words, window)?;
-        write_file(disk, FileId::Block(window as u32), &file)?;
+        write_window(alloc, disk, &mut series, &mut words, window)?;
     }
     Ok(())
 }
 
 /// A store all points of which stand in block files, one for each window.
-pub fn lay_blocks(alloc: Global, words: &mut Series, windows: u8) -> Result<MemoryDisk, Fault> {
-    let mut disk = MemoryDisk::new(alloc);
-    write_file(&mut disk, FileId::Marks, &marks_of(alloc, windows)?)?;
-    let keys = FileId::Keys(windows as u32);
-    write_file(&mut disk, keys, &key_list(alloc, true)?)?;
-    lay_windows(alloc, &mut disk, words, windows)?;
-    Ok(disk)
+pub fn lay_blocks(alloc: Global, disk: &mut MemoryDisk, windows: u8) -> Result<(), Fault> {
+    write_marks(alloc, disk, windows)?;
+    write_list(alloc, disk, FileId::Keys(windows as u32), true)?;
+    write_windows(alloc, disk, windows)
 }

@@ -5,9 +5,10 @@
 //! - `blocks`: blocks, pushed and decoded.
 //! - `cell`: a day of a cell, put, copied and decoded.
 //! - `table`: a hall's take, mark and give, on one thread and on several.
-//! - `shard`: puts and gets through a shard, on one thread and on several.
+//! - `shard`: puts and gets of a shard's lanes, on one thread and on several.
 //! - `store`: the program's path, from a workload's text to the last flush.
 //! - `recovery`: what a shard's files hold, read back.
+//! - `phases`: workloads of puts and gets, answered on a store.
 //! - `words`: the four series of words that parts measure.
 //! - `report`: a table of figures, as it is printed.
 //! - `fault`: why nothing was measured.
@@ -25,6 +26,7 @@ mod fault;
 mod first;
 mod laying;
 mod part;
+mod phases;
 mod recovery;
 mod report;
 mod shard;

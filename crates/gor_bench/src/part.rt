@@ -7,7 +7,7 @@ use std::thread::Threads;
 use std::time::Clock;
 
 /// What a word of the command measures.
-#[derive(Clone, Copy, Debug, PartialEq, Eq)]
+#[derive(Clone, Copy)]
 pub enum Part {
     /// `codes`: the codes of times and words, each way.
     Codes,

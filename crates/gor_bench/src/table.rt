@@ -3,17 +3,14 @@ ghost use Rattle.std.specs.Prelude.{◌≡◌, ℕ, ◌+◌, ◌<◌, ◌≤◌,
 ghost use Rattle.gor_hall.specs.Halls.{IsPassOf, IsFirstPass, start_of, lanes_of};
 ghost use Rattle.gor_hall.specs.Passes.{view, held, at, lane_of};
 ghost use Rattle.gor_model.specs.Answers.{Legal};
-ghost use Rattle.gor_plain.specs.declared.plain.Plain.TheVariants as plain;
-ghost use Rattle.gor_plain.specs.Lanes.{IsIdle, IsBack};
-ghost use Rattle.gor_plain.specs.Puts.{Stands};
-ghost use Rattle.gor_bench.specs.FourSeries.{four_series};
+ghost use Rattle.gor_bench.specs.FourSeries.{four_series, row_of, Stands};
 ghost use Rattle.gor_bench.specs.Gets.{got};
+ghost use Rattle.gor_bench.specs.Turns.{IsIdle};
 
 use crate::fault::Fault;
-use crate::first::{FourSeries, first_values};
-use crate::report::{Report, Row, nanos_since, now};
+use crate::first::{FourSeries, Value, first_values};
+use crate::report::{Report, Row, nanos_since, now, tenths};
 use gor_hall::{Hall, Opened, Pass, Unopened};
-use gor_plain::{Cell, Plain};
 use gor_rule::Says;
 use std::alloc::{AllocError, Global};
 use std::sync::Wait;
@@ -27,61 +24,59 @@ const TURNS: u32 = 100_000;
 const ROUNDS: u32 = 10;
 
 /// A get of the points of a range in which there are none, from a series that is held.
-#[derive(Drop)]
+#[derive(Clone, Copy)]
 struct Got {
     lane: u32,
     slot: u32,
-    cell: Cell,
+    letter: u8,
+    own: u32,
 }
 
 impl Says for Got {
-    ghost event = { λ g. got g.lane g.slot g.cell.key 1 0 g.cell.row };
+    ghost event = { λ g. got g.lane g.slot (g.letter ∷ []) 1 0 (row_of g.letter g.own) };
 }
 
 /// Makes one event at a series that is held, and leaves it as it was.
-fn mark_held(hall: &Hall<Plain>, pass: &mut Pass, slot: u32, value: Plain) -> Plain
+fn mark_held(hall: &Hall<Value>, pass: &mut Pass, slot: u32, value: Value)
     requires pass { IsPassOf hall.now pass.old × (held pass.old ≡ (slot + 2) ∷ []) }
     requires slot { slot < (start_of hall.now).slots }
     requires legal { Legal (view pass.old).start (at pass.old) }
     requires stands { Stands (view pass.old) (slot + 2) value }
-    ensures pass { IsPassOf hall.now pass.new × (held pass.new ≡ (slot + 2) ∷ []) × (lane_of pass.new ≡ lane_of pass.old) }
-    ensures stands { Stands (view pass.new) (slot + 2) result }
+    ensures pass { IsPassOf hall.now pass.new × (held pass.new ≡ (slot + 2) ∷ []) }
+    ensures stands { Stands (view pass.new) (slot + 2) value }
 {
     if pass.left() == 0 {
-        return value;
+        return;
     }
-    let Plain::Series(cell) = value else {
-        return value;
+    let Value::Series { letter, slot: own } = value else {
+        return;
     };
     let event = Got {
         lane: pass.lane(),
         slot,
-        cell,
+        letter,
+        own,
     };
     hall.mark(pass, &event);
-    let Got { cell, .. } = event;
-    Plain::Series(cell)
 }
 
 /// Takes a series, makes one event there if it is to, and gives it back.
-fn turn<R: Wait>(rt: &R, hall: &Hall<Plain>, pass: &mut Pass, slot: u32, marks: bool)
+fn turn<R: Wait>(rt: &R, hall: &Hall<Value>, pass: &mut Pass, slot: u32, marks: bool)
     requires pass { IsIdle hall.now pass.old }
     requires slot { (slot < 4) × ((start_of hall.now).slots ≡ 4) }
-    ensures { IsBack hall.now pass.old pass.new }
+    ensures { IsIdle hall.now pass.new }
 {
     let value = hall.take(rt, pass, slot + 2);
     if marks {
-        let after = mark_held(hall, pass, slot, value);
-        hall.give(pass, slot + 2, after);
-    } else {
-        hall.give(pass, slot + 2, value);
+        mark_held(hall, pass, slot, value);
     }
+    hall.give(pass, slot + 2, value);
 }
 
-fn turns<R: Wait>(rt: &R, hall: &Hall<Plain>, pass: &mut Pass, slot: u32, marks: bool)
+fn turns<R: Wait>(rt: &R, hall: &Hall<Value>, pass: &mut Pass, slot: u32, marks: bool)
     requires pass { IsIdle hall.now pass.old }
     requires slot { (slot < 4) × ((start_of hall.now).slots ≡ 4) }
-    ensures { IsBack hall.now pass.old pass.new }
+    ensures { IsIdle hall.now pass.new }
 {
     for _ in 0..TURNS {
         turn(rt, hall, pass, slot, marks);
@@ -91,14 +86,14 @@ fn turns<R: Wait>(rt: &R, hall: &Hall<Plain>, pass: &mut Pass, slot: u32, marks:
 /// All lanes make their turns, each in a thread of its own.
 fn run_all<R: Threads + Wait + Sync>(
     rt: &R,
-    hall: &Hall<Plain>,
+    hall: &Hall<Value>,
     passes: &mut [Pass],
     is_shared: bool,
     marks: bool,
 )
     requires passes { All (λ pass. IsIdle hall.now pass) passes.old }
     requires slots { (start_of hall.now).slots ≡ 4 }
-    ensures back { (i : ℕ) (d : Pass) → i < length passes.old → IsBack hall.now (slice_index_or passes.old i d) (slice_index_or passes.new i d) }
+    ensures back { (i : ℕ) (d : Pass) → i < length passes.old → IsIdle hall.now (slice_index_or passes.new i d) }
     ensures length { length passes.new ≡ length passes.old }
 {
     thread::for_each_mut(
@@ -107,7 +102,7 @@ fn run_all<R: Threads + Wait + Sync>(
         16,
         &|lane: usize, pass: &mut Pass| -> ()
             requires { IsIdle hall.now pass.old × ((start_of hall.now).slots ≡ 4) }
-            ensures { IsBack hall.entry.now pass.old pass.new }
+            ensures { IsIdle hall.entry.now pass.new }
         { turns(rt, hall, pass, slot_of(lane, is_shared), marks) },
     );
 }
@@ -119,34 +114,40 @@ fn slot_of(lane: usize, is_shared: bool) -> u32
     if is_shared { 0 } else { (lane % 4) as u32 }
 }
 
-fn open(alloc: Global, lanes: u32) -> Result<Opened<Plain>, AllocError>
+fn open(alloc: Global, lanes: u32) -> Result<Opened<Value>, AllocError>
     requires { (1 ≤ lanes) × (lanes ≤ 16) }
     ensures hall { IfOk result (λ o. (start_of o.hall ≡ four_series) × (lanes_of o.hall ≡ lanes)) }
     ensures passes { IfOk result (λ o. (vec_len o.passes ≡ lanes) × ((k : ℕ) (p : Pass) → slice_get o.passes.items k ≡ Some p → IsFirstPass o.hall k p)) }
 {
-    match Hall::open(alloc, &FourSeries, first_values(alloc)?, lanes) {
+    let values = first_values(alloc)?;
+    match Hall::open(alloc, &FourSeries, values, lanes) {
         Ok(opened) => Ok(opened),
         Err(Unopened { .. }) => Err(AllocError),
     }
 }
 
-/// The nanoseconds that the lanes take for their turns, and how many events there are then.
-fn run_and_count<R: Threads + Wait + Sync + Clock>(
+/// The nanoseconds that the lanes take for their turns, which make so many events.
+fn time_all<R: Threads + Wait + Sync + Clock>(
     rt: &R,
-    hall: &Hall<Plain>,
+    hall: &Hall<Value>,
     passes: &mut [Pass],
     is_shared: bool,
     marks: bool,
-) -> Result<(u64, u64), Fault>
+    wanted: u64,
+) -> Result<u64, Fault>
     requires passes { All (λ pass. IsIdle hall.now pass) passes.old }
     requires slots { (start_of hall.now).slots ≡ 4 }
 {
     let begin = now(rt)?;
     run_all(rt, hall, passes, is_shared, marks);
     let nanos = nanos_since(rt, begin)?;
-    match passes.first_mut() {
-        Some(pass) => Ok((nanos, hall.look(pass))),
-        None => Err(Fault::Wrong),
+    let Some(pass) = passes.first_mut() else {
+        return Err(Fault::Wrong);
+    };
+    if hall.look(pass) == wanted {
+        Ok(nanos)
+    } else {
+        Err(Fault::Wrong)
     }
 }
 
@@ -160,17 +161,10 @@ fn time_turns<R: Threads + Wait + Sync + Clock>(
 ) -> Result<u64, Fault>
     requires { (1 ≤ lanes) × (lanes ≤ 16) }
 {
+    let events = TURNS as u64 * lanes as u64;
+    let wanted = if marks { events } else { 0 };
     let Opened { hall, mut passes } = open(alloc, lanes)?;
-    let (nanos, made) = run_and_count(rt, &hall, passes.as_mut_slice(), is_shared, marks)?;
-    let wanted = if marks {
-        TURNS as u64 * lanes as u64
-    } else {
-        0
-    };
-    if made != wanted {
-        return Err(Fault::Wrong);
-    }
-    Ok(nanos)
+    time_all(rt, &hall, passes.as_mut_slice(), is_shared, marks, wanted)
 }
 
 /// The nanoseconds of the fastest of some rounds.
@@ -202,26 +196,24 @@ fn measure_lanes<R: Threads + Wait + Sync + Clock>(
 {
     let bare = fastest_turns(rt, alloc, lanes, is_shared, false)?;
     let marked = fastest_turns(rt, alloc, lanes, is_shared, true)?;
-    let mut row = Row::new(alloc, label);
-    row.add(bare, TURNS as u64)?;
-    row.add(marked, TURNS as u64)?;
-    row.add(marked, TURNS as u64 * lanes as u64)?;
-    Ok(row)
+    let turns = TURNS as u64;
+    let all = tenths(marked, turns * lanes as u64);
+    Ok(Row::new(
+        label,
+        [tenths(bare, turns), tenths(marked, turns), all, 0, 0],
+    ))
 }
 
 /// One thread, then two and four with a series for each, then two and four with one series for all.
-pub fn measure<R: Threads + Wait + Sync + Clock>(rt: &R, alloc: Global) -> Result<Report, Fault>
-    ensures { IfOk result (λ report. length report.rows.items ≡ 5) }
-{
+pub fn measure<R: Threads + Wait + Sync + Clock>(rt: &R, alloc: Global) -> Result<Report, Fault> {
     let mut report = Report::new(
-        alloc,
         "table",
         &["ns a take, give", "ns with its mark", "ns an event of all"],
     );
-    report.add(measure_lanes(rt, alloc, "1 thread", 1, false)?)?;
-    report.add(measure_lanes(rt, alloc, "2 threads, 2 series", 2, false)?)?;
-    report.add(measure_lanes(rt, alloc, "4 threads, 4 series", 4, false)?)?;
-    report.add(measure_lanes(rt, alloc, "2 threads, 1 series", 2, true)?)?;
-    report.add(measure_lanes(rt, alloc, "4 threads, 1 series", 4, true)?)?;
+    report.add(measure_lanes(rt, alloc, "1 thread", 1, false)?);
+    report.add(measure_lanes(rt, alloc, "2 threads, 2 series", 2, false)?);
+    report.add(measure_lanes(rt, alloc, "4 threads, 4 series", 4, false)?);
+    report.add(measure_lanes(rt, alloc, "2 threads, 1 series", 2, true)?);
+    report.add(measure_lanes(rt, alloc, "4 threads, 1 series", 4, true)?);
     Ok(report)
 }

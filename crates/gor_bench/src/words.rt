@@ -1,11 +1,10 @@
 //! The series of words that parts measure.
-ghost use Rattle.std.specs.Prelude.{◌≡◌, OnOk, length};
 
 use std::alloc::AllocError;
 use std::num::nearest_u64_to_f64;
 
 /// A kind of series.
-#[derive(Clone, Copy, Debug, PartialEq, Eq)]
+#[derive(Clone, Copy)]
 pub enum Kind {
     /// The double 12 at each point.
     Constant,
@@ -33,7 +32,7 @@ impl Kind {
 }
 
 /// A series of words of one kind, the same in each run.
-#[derive(Drop)]
+#[derive(Clone, Copy)]
 pub struct Series {
     kind: Kind,
     level: u64,
@@ -48,9 +47,7 @@ fn double_bits(number: u64, among: f64) -> u64 {
 
 impl Series {
     /// The series of a kind, before its first word.
-    pub fn new(kind: Kind) -> Series
-        ensures { result.kind ≡ kind }
-    {
+    pub fn new(kind: Kind) -> Series {
         Series {
             kind,
             level: 2000,
@@ -59,9 +56,7 @@ impl Series {
     }
 
     /// The next number with no order in it: a step of splitmix64.
-    pub fn draw(&mut self) -> u64
-        ensures { self.new.kind ≡ self.old.kind }
-    {
+    fn draw(&mut self) -> u64 {
         self.seed = self.seed.wrapping_add(0x9e37_79b9_7f4a_7c15);
         let first = (self.seed ^ (self.seed >> 30)).wrapping_mul(0xbf58_476d_1ce4_e5b9);
         let second = (first ^ (first >> 27)).wrapping_mul(0x94d0_49bb_1331_11eb);
@@ -69,9 +64,7 @@ impl Series {
     }
 
     /// The next word.
-    pub fn word(&mut self) -> u64
-        ensures { self.new.kind ≡ self.old.kind }
-    {
+    pub fn word(&mut self) -> u64 {
         let drawn = self.draw();
         match self.kind {
             Kind::Constant => double_bits(12, 1.0),
@@ -92,10 +85,7 @@ impl Series {
     }
 
     /// Puts the next words in place of those of the list, so many.
-    pub fn fill(&mut self, words: &mut Vec<u64>, count: usize) -> Result<(), AllocError>
-        ensures kind { self.new.kind ≡ self.old.kind }
-        ensures count { OnOk result (length words.new.items ≡ count) }
-    {
+    pub fn fill(&mut self, words: &mut Vec<u64>, count: usize) -> Result<(), AllocError> {
         words.clear();
         for _ in 0..count {
             words.push(self.word())?;

@@ -1,6 +1,6 @@
-use Rattle.std.proofs.Common.{slice_index_or, subst}
+use Rattle.std.proofs.Common.{subst}
 use Rattle.gor_hall.specs.declared.pass.Pass.{Pass}
-use Rattle.gor_plain.specs.Lanes.{IsBack}
+use Rattle.gor_bench.specs.Turns.{IsIdle}
 use denote.Param.Send.{sendable}
 use Rattle.std.proofs.Crossing.{crosses}
 use Rattle.gor_hall.proofs.Sharing.{badge_send}
@@ -11,5 +11,5 @@ for_each_mut-requires-send-T g c κs within = search (sendable, crosses, badge_s
 
 pub returns-clause-back : goal.returns-clause-back
 returns-clause-back g c i d low =
-    let t = (c.for_each_mut.ensures i d low).1 in
-    subst (λ (y : Pass). IsBack c.args.hall.now (slice_index_or c.args.passes.now i d) y) t.left (subst (λ (x : Pass). IsBack c.args.hall.now x t.after_call.now) t.argument_is t.call)
+    let turn = (c.for_each_mut.ensures i d low).1 in
+    subst (λ (pass : Pass). IsIdle c.args.hall.now pass) turn.left turn.call

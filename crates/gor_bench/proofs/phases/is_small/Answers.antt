@@ -6,7 +6,7 @@ use Rattle.std.specs.Prelude.{map}
 use Rattle.gor_text.specs.declared.workload.Line.{Line}
 use Rattle.gor_store.specs.Lanes.{AreTaken}
 use Rattle.gor_bench.specs.Puts.{ArePuts, IsSmall}
-use Rattle.gor_bench.proofs.store.is_small.Goals as goal
+use Rattle.gor_bench.proofs.phases.is_small.Goals as goal
 
 all_puts : (lanes : List (Vec Line Global)) → length lanes ≡ 8 → All (λ (lines : Vec Line Global). ArePuts lines.items) lanes → IsSmall (map (λ (lines : Vec Line Global). lines.items) lanes)
 all_puts lanes eight puts =
