@@ -22,6 +22,7 @@ use crate::puts::{NewPoint, PutFault, PutReply, put_at, put_there};
 use crate::reads::slot_in;
 use gor_dir::Directory;
 use gor_hall::{Hall, Pass};
+use gor_model::GREATEST_TIME;
 use gor_name::Name;
 use std::sync::Wait;
 
@@ -139,7 +140,7 @@ pub fn put<V: Parts<K>, K, R: Wait>(
     ensures moves { IfOk result (λ r. AddsMoves pass.old pass.new (PutsApart (start_of shard.now).slots (BeginsOrStops (key_of name.now) pass.new r.answer))) }
     ensures failed { OnErr result (AddsMoves pass.old pass.new (PutsApart (start_of shard.now).slots ⊤)) }
 {
-    if time > 4_294_965_599 {
+    if time > GREATEST_TIME {
         return Err(PutFault::Time { time });
     }
     let point = new_point(name, time, word);

@@ -8,10 +8,10 @@ ghost use Rattle.gor_cell.specs.Stands.{Stands};
 ghost use Rattle.gor_image.specs.Recovered.{row_of, keyed_row};
 ghost use Rattle.gor_store.specs.Series.{AddsPoint, AreVacant, IsSeries, CellsStand, open_share, share_of_row};
 
-use crate::windows::window_before;
 use gor_cell::Cell;
 use gor_image::RecoveredRow;
 use gor_model::Point;
+use gor_model::windows::window_before;
 use std::alloc::{AllocError, Global};
 
 /// Puts a point into a live cell.

@@ -8,9 +8,9 @@ ghost use Rattle.gor_dir.specs.Listings.{Stands, shown};
 ghost use Rattle.gor_image.specs.Recovered.{keyed_row, recovered_start};
 ghost use Rattle.gor_store.specs.Directories.{AreRows, RestoresRow, RaisesTo, rows_start};
 
-use crate::windows::window_before;
 use gor_dir::Directory;
 use gor_image::{Recovered, RecoveredRow};
+use gor_model::windows::window_before;
 use std::alloc::{AllocError, Global};
 
 /// Takes up the series of one row.

@@ -7,7 +7,6 @@
 //! - `values`: the values in the order of their numbers.
 //! - `cells`: the series of the slots.
 //! - `directory`: the directory.
-//! - `windows`: the window that ends at a floor.
 //! - `lines`: each line of a lane is answered, and what it brought about is told.
 //! - `lanes`: a lane waits until it has seen all events before its phase, and answers its lines in order.
 //! - `phases`: the eight lanes of a phase beside each other, in threads.
@@ -34,7 +33,6 @@ mod phases;
 mod shards;
 mod store;
 mod values;
-mod windows;
 
 pub use lanes::run_lane;
 pub use shards::{OpenShard, close_shard, open_shard};

@@ -7,8 +7,8 @@ use Rattle.gor_steps.specs.Puts.{BeginsOrStops}
 use Rattle.gor_steps.proofs.PutMoves.{no_puts}
 use Rattle.gor_steps.proofs.put_call.put.Goals as goal
 
-pub returns-then-time-gt4294965599-clause-failed : goal.returns-then-time-gt4294965599-clause-failed
-returns-then-time-gt4294965599-clause-failed g c = no_puts (start_of c.args.shard.now).slots ⊤ c.args.pass.now
+pub returns-then-time-gt-GREATEST_TIME-clause-failed : goal.returns-then-time-gt-GREATEST_TIME-clause-failed
+returns-then-time-gt-GREATEST_TIME-clause-failed g c = no_puts (start_of c.args.shard.now).slots ⊤ c.args.pass.now
 
 pub returns-in-Ok-clause-moves : goal.returns-in-Ok-clause-moves
 returns-in-Ok-clause-moves g c =
