@@ -1,11 +1,11 @@
 -- The files that a mark replaces are cut one kind after another.
 use Rattle.std.proofs.Common.{◌≡◌, ℕ, ◌-◌, ◌≤◌, List, [], ◌∷◌, ◌++◌, Bool, true, false, refl, sym, ◌∙◌, subst, arith}
-use Rattle.std.specs.Prelude.{nat_eq, ◌||◌, ⊤}
+use Rattle.std.specs.Prelude.{nat_eq, nat_le, not, ◌&&◌, ◌||◌, ⊤}
 use Rattle.gor_disk.specs.declared.disk.FileId.{FileId}
 use Rattle.gor_disk.specs.declared.disk.FileId.TheVariants.{Marks, Keys, Log, Block}
 use Rattle.gor_disk.specs.Disk.{DiskView, Touches}
 use Rattle.gor_marks.specs.declared.mark.Mark.{Mark}
-use Rattle.gor_marks.specs.declared.mark.Mark.TheVariants.{Sealed}
+use Rattle.gor_marks.specs.declared.mark.Mark.TheVariants.{Home, Sealed}
 use Rattle.gor_image.specs.Images.{base_of, first_log_of, or_zero}
 use Rattle.gor_image.specs.Recovered.{MayFollow}
 use Rattle.gor_flush.specs.ReadFiles.{is_replaced}
@@ -61,3 +61,16 @@ module _ (s : List Mark) (w k u f : ℕ) (may : MayFollow s (Sealed w k u f)) wh
       by (Keys n) e = let it : k - 1 ≡ n = (let number = e in grind arith) in subst (λ y. IsGone (Keys y) new) it (last (Keys (k - 1)) refl refl list_gone)
       by (Log l) e = leaves_gone (is_block_of before w s) two new blocks (Log l) refl (logs_gone l (let number = e in grind arith) (let number = e in grind arith))
       by (Block v) e = blocks_gone v e
+
+-- a first mark replaces nothing
+pub home_replaces_none : (shards shard : ℕ) (disk : DiskView) → AreDropped (Home shards shard ∷ []) disk
+home_replaces_none shards shard disk Marks e = absurd (let both : false ≡ true = e in cc)
+home_replaces_none shards shard disk (Keys k) e = absurd (none (nat_eq k 0) e) where
+  none : (b : Bool) → (b && not b) ≡ true → ⊥
+  none true e = let both : false ≡ true = e in cc
+  none false e = let both : false ≡ true = e in cc
+home_replaces_none shards shard disk (Log l) e = absurd (none (nat_le 0 l && nat_le l 0) e) where
+  none : (b : Bool) → (b && not b) ≡ true → ⊥
+  none true e = let both : false ≡ true = e in cc
+  none false e = let both : false ≡ true = e in cc
+home_replaces_none shards shard disk (Block w) e = absurd (let both : false ≡ true = e in cc)

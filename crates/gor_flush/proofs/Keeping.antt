@@ -49,17 +49,28 @@ module _ (P : Contents → Type 0) (Q : Contents → Type 0) (old new : DiskView
 
 -- ---- a device after a call
 
-abbrev pub after : Shown → DiskView → ℕ → Place → Place → List LogTop → Buffers → Bool → ℕ → Shown
-after d disk faults keys log tops buffers stopped written = record d { disk = disk; faults = faults; keys = keys; log = log; tops = tops; buffers = buffers; stopped = stopped; written = written }
+abbrev pub after : Shown → DiskView → ℕ → Place → Place → List LogTop → Buffers → Bool → ℕ → DiskView → ℕ → Shown
+after d disk faults keys log tops buffers stopped written last last_faults = record d {
+  disk = disk;
+  faults = faults;
+  keys = keys;
+  log = log;
+  tops = tops;
+  buffers = buffers;
+  stopped = stopped;
+  written = written;
+  last = last;
+  last_faults = last_faults;
+}
 
 pub older_low : (done : DoneAt) (older : List DoneAt) → NoneAbove done older → last_count older ≤ done.count
 older_low done [] none = omega arith
 older_low done (d ∷ older) none = none.1
 
-module _ (d : Shown) (disk : DiskView) (faults : ℕ) (keys log : Place) (tops : List LogTop) (buffers : Buffers) (stopped : Bool) (written : ℕ) (start : Start) (C E : List Change)
+module _ (d : Shown) (disk : DiskView) (faults : ℕ) (keys log : Place) (tops : List LogTop) (buffers : Buffers) (stopped : Bool) (written : ℕ) (last : DiskView) (last_faults : ℕ) (start : Start) (C E : List Change)
     (runs : Runs (HoldsEither d.shards d.shard start C E) d.disk disk) where
   abbrev new : Shown
-  new = after d disk faults keys log tops buffers stopped written
+  new = after d disk faults keys log tops buffers stopped written last last_faults
 
   pub prefixes_on : Prefixes d start C → Prefixes new start (E ++ C)
   prefixes_on had = since_on (HoldsPrefix d.shards d.shard start (E ++ C) 0) (HoldsEither d.shards d.shard start C E) d.disk disk runs d.opened

@@ -177,6 +177,7 @@ stands_open d slots r old recovered made opened given told = record {
     );
     ensured = λ t. (told t).ensured;
   };
+  still = tt;
   images = λ t fit. let all = told t in images_hold d slots r old opened all.holds all.found all.ready
       (subst (IsFitFor d.shards d.shard) given ((fit_is_told d.shards d.shard d.given).0 (fit_is slots r d.shards d.shard d.opened d.begun (is_fit d.shards d.shard d.given) ∙ fit)));
 }

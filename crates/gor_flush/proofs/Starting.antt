@@ -1,17 +1,18 @@
 -- A device that has taken may write, and stands still when it is stopped.
-use Rattle.std.proofs.Common.{◌≡◌, ◌≢◌, ℕ, ◌≤◌, List, [], ◌∷◌, ◌++◌, length, true, refl, sym, ◌∙◌, ap, subst, arith, vec_len}
+use Rattle.std.proofs.Common.{◌≡◌, ◌≢◌, ℕ, ◌≤◌, List, [], ◌∷◌, ◌++◌, length, true, false, IsTrue, refl, sym, ◌∙◌, ap, subst, arith, vec_len}
 use Rattle.std.specs.Prelude.{Vec}
 use Rattle.std.specs.declared.alloc.Global.{Global}
 use Rattle.gor_disk.specs.declared.disk.FileId.TheVariants.{Keys, Log}
 use Rattle.gor_disk.specs.Disk.{DiskView, LeavesSince, Rose}
+use Rattle.gor_model.specs.declared.event.Change.{Change}
 use Rattle.gor_model.specs.declared.start.Start.{Start}
 use Rattle.gor_model.specs.Changes.{History}
 use Rattle.gor_model.specs.Shares.{DeviceShare, DoneAt, device_share}
 use Rattle.gor_journal.specs.Bodies.{stored}
 use Rattle.gor_image.specs.Images.{current}
-use Rattle.gor_flush.specs.Devices.{Shown, HoldsPrefix, IsRunning, Kept, RunsBy, last_count}
+use Rattle.gor_flush.specs.Devices.{Shown, HoldsPrefix, IsRunning, Kept, RunsBy, StandsFor, StillBy, last_count}
 use Rattle.gor_flush.specs.Flushes.{HasHead}
-use Rattle.gor_flush.specs.Keeps.{CallKeeps, DoneExtends, StepKeeps, StandsStill}
+use Rattle.gor_flush.specs.Keeps.{CallKeeps, DoneExtends, HasSameDisk, StepKeeps, StandsStill, StopsAfter, with_disk}
 use Rattle.gor_flush.specs.Takes.{HasTaken, with_buffers}
 use Rattle.gor_flush.specs.Writes.{MayWrite, TakenMayWrite}
 use Rattle.gor_flush.proofs.Keeping.{fewer, kept_done, longer, older_low, since_on}
@@ -85,17 +86,73 @@ step_keeps d e start C E dones same kept = on dones kept where
 
 -- ---- a device that is stopped
 
-pub stands_still : (d : Shown) → Rose d.begun d.faults → StandsStill d (record d { stopped = true })
-stands_still d rose start share stood = record {
-  shards_are = stood.shards_are;
-  shard_is = stood.shard_is;
-  opened = stood.opened;
-  begun = stood.begun;
-  stopped = refl;
-  since = stood.since;
-  runs = rose;
-  images = λ t fit. let images = stood.images t fit in record { prefixes = images.prefixes; kept = kept_same share.dones images.kept; now = tt };
-} where
-  kept_same : (olds : List DoneAt) → Kept d start share.taken olds → Kept (record d { stopped = true }) start share.taken olds
-  kept_same [] kept = tt
-  kept_same (done ∷ older) kept = (kept.0, kept.1, kept.2, kept.3, kept_same older kept.4)
+kept_same : (d e : Shown) (start : Start) (C : List Change) (dones : List DoneAt) → HasSameDisk d e → Kept d start C dones → Kept e start C dones
+kept_same d e start C dones same kept = step_keeps d e start C [] dones same kept
+
+module _ (d : Shown) (last : DiskView) (last_faults : ℕ) where
+  abbrev now : Shown
+  now = record d { stopped = true; last = last; last_faults = last_faults }
+
+  pub stands_still : Rose d.begun d.faults → d.disk ≡ last → d.faults ≡ last_faults → StandsStill d now
+  stands_still rose as_last faults_last start share stood = record {
+    shards_are = stood.shards_are;
+    shard_is = stood.shard_is;
+    opened = stood.opened;
+    begun = stood.begun;
+    stopped = refl;
+    since = stood.since;
+    runs = rose;
+    still = record { disk = as_last; faults = faults_last };
+    images = λ t fit. let images = stood.images t fit in record {
+      prefixes = images.prefixes;
+      kept = kept_same d now start share.taken share.dones (record { disk = refl; shards = refl; shard = refl; opened = refl }) images.kept;
+      now = tt;
+    };
+  }
+
+  pub stops_after : Rose d.begun d.faults → d.disk ≡ last → d.faults ≡ last_faults → StopsAfter d now
+  stops_after rose as_last faults_last before start share E going opened stood keeps = record {
+    shards_are = opened.shards ∙ stood.shards_are;
+    shard_is = opened.shard ∙ stood.shard_is;
+    opened = opened.opened ∙ stood.opened;
+    begun = opened.begun ∙ stood.begun;
+    stopped = refl;
+    since = λ t.
+        let told : IsTrue before.tells = subst IsTrue opened.tells t in
+        let a = stood.since told in let b = opened.later told in let o = opened.opened in omega (arith, a, b, o);
+    runs = rose;
+    still = record { disk = as_last; faults = faults_last };
+    images = λ t fit.
+        let images = stood.images (subst IsTrue opened.tells t) fit in
+        let runs = keeps t fit in
+        let n = last_count share.dones in
+        record {
+          prefixes = subst (λ (x : ℕ × ℕ × ℕ). LeavesSince x.0 d.disk (HoldsPrefix x.1 x.2 start (E ++ share.taken) 0)) (λ i. (sym opened.opened i, sym opened.shards i, sym opened.shard i))
+              (since_on (HoldsPrefix before.shards before.shard start (E ++ share.taken) 0) (HoldsPrefix before.shards before.shard start (E ++ share.taken) n) before.disk d.disk runs before.opened
+              (λ k image low high is. longer before.shards before.shard start share.taken image E 0 (images.prefixes k image low high is))
+              (λ image held. fewer before.shards before.shard start (E ++ share.taken) image 0 n (omega arith) held));
+          kept = kept_same (with_disk d.disk before) now start (E ++ share.taken) share.dones (record { disk = refl; shards = opened.shards; shard = opened.shard; opened = opened.opened })
+              (call_keeps before d.disk start share.taken E share.dones images.kept runs);
+          now = tt;
+        };
+  }
+
+-- one that is stopped already
+pub stays_stopped : (d : Shown) → d.stopped ≡ true → StandsStill d d
+stays_stopped d is start share stood =
+    let stops : share.stopped ≡ true = sym stood.stopped ∙ is in
+    record {
+      shards_are = stood.shards_are;
+      shard_is = stood.shard_is;
+      opened = stood.opened;
+      begun = stood.begun;
+      stopped = is;
+      since = stood.since;
+      runs = subst (λ b. RunsBy b d start share) stops stood.runs;
+      still = subst (λ b. StillBy b d) stops stood.still;
+      images = λ t fit. let images = stood.images t fit in record { prefixes = images.prefixes; kept = images.kept; now = tt };
+    }
+
+-- and of which that is not said
+pub not_running : (d e : Shown) → d.stopped ≡ true → StopsAfter d e
+not_running d e is before start share E going opened stood keeps = absurd (let both : true ≡ false = sym is ∙ going in cc)

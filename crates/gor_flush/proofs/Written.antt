@@ -25,7 +25,7 @@ use Rattle.gor_image.specs.Images.{current, remaining_logs}
 use Rattle.gor_image.specs.Laws.{IsBefore}
 use Rattle.gor_image.specs.Recovered.{AreMarks}
 use Rattle.gor_image.specs.declared.recovered.LogTop.{LogTop}
-use Rattle.gor_flush.specs.Devices.{Shown, HoldsAll, HoldsPrefix, IsRunning, IsSettled, RunsBy, SettledBy, ShowTops, StandsFor, last_count}
+use Rattle.gor_flush.specs.Devices.{Shown, HoldsAll, HoldsPrefix, IsRunning, IsSettled, RunsBy, SettledBy, ShowTops, StandsFor, StillBy, last_count}
 use Rattle.gor_flush.specs.Flushes.{HoldsEither, IsWithin, MayExtend, OthersStay, with_body}
 use Rattle.gor_flush.specs.Takes.{share_done, share_stopped}
 use Rattle.gor_flush.specs.Writes.{raised}
@@ -124,9 +124,9 @@ module _ (d : Shown) (buffers : Buffers) (start : Start) (h : History) (begins :
       numbers = low_numbers start h begins short;
     }
 
-  module _ (disk : DiskView) (faults : ℕ) (keys log : Place) (tops : List LogTop) (left : Buffers) (stopped : Bool) (written : ℕ) where
+  module _ (disk : DiskView) (faults : ℕ) (keys log : Place) (tops : List LogTop) (left : Buffers) (stopped : Bool) (written : ℕ) (last : DiskView) (last_faults : ℕ) where
     abbrev new : Shown
-    new = after d disk faults keys log tops left stopped written
+    new = after d disk faults keys log tops left stopped written last last_faults
 
     module _ (called : Called d buffers disk) (tells : IsTrue d.tells) where
       since : d.opened ≤ disk.moment
@@ -134,8 +134,8 @@ module _ (d : Shown) (buffers : Buffers) (start : Start) (h : History) (begins :
 
     -- ---- after a fault
 
-    pub stands_stopped : stopped ≡ true → Rose d.faults faults → ((t : IsTrue d.tells) → Called d buffers disk) → StandsFor new start (share_stopped start h)
-    stands_stopped is rose called = record {
+    pub stands_stopped : stopped ≡ true → Rose d.faults faults → disk ≡ last → faults ≡ last_faults → ((t : IsTrue d.tells) → Called d buffers disk) → StandsFor new start (share_stopped start h)
+    stands_stopped is rose as_last faults_last called = record {
       shards_are = stood.shards_are;
       shard_is = stood.shard_is;
       opened = stood.opened;
@@ -143,12 +143,13 @@ module _ (d : Shown) (buffers : Buffers) (start : Start) (h : History) (begins :
       stopped = is;
       since = λ t. since (called t) t;
       runs = subst (λ n. Rose n faults) running.faults rose;
+      still = record { disk = as_last; faults = faults_last };
       images = λ t fit.
           let images = stood.images t fit in
           let either = (called t).either d.shards d.shard head.m head.marks start C E (may images) in
           record {
-            prefixes = prefixes_on d disk faults keys log tops left stopped written start C E either images.prefixes;
-            kept = kept_on d disk faults keys log tops left stopped written start C E either (device_share start h).dones (let c = running.done in omega (arith, c)) images.kept;
+            prefixes = prefixes_on d disk faults keys log tops left stopped written last last_faults start C E either images.prefixes;
+            kept = kept_on d disk faults keys log tops left stopped written last last_faults start C E either (device_share start h).dones (let c = running.done in omega (arith, c)) images.kept;
             now = tt;
           };
     }
@@ -223,14 +224,15 @@ module _ (d : Shown) (buffers : Buffers) (start : Start) (h : History) (begins :
         stopped = same_stop ∙ stood.stopped;
         since = λ t. since (done t).called t;
         runs = subst (λ b. RunsBy b new start (share_done disk.moment start h)) (sym going) running_on;
+        still = subst (λ b. StillBy b new) (sym going) tt;
         images = λ t fit.
             let images = stood.images t fit in
             let either = (done t).called.either d.shards d.shard head.m head.marks start C E (may images) in
             let low : last_count (device_share start h).dones ≤ length C = let c = running.done in omega (arith, c) in
             record {
-              prefixes = prefixes_on d disk faults keys log tops left stopped written start C E either images.prefixes;
+              prefixes = prefixes_on d disk faults keys log tops left stopped written last last_faults start C E either images.prefixes;
               kept = kept_done new start (E ++ C) (length (E ++ C)) (device_share start h).dones (since (done t).called t) (holds_now done t same_keys same_log images)
-                  (omega (arith, low, long)) (kept_on d disk faults keys log tops left stopped written start C E either (device_share start h).dones low images.kept);
+                  (omega (arith, low, long)) (kept_on d disk faults keys log tops left stopped written last last_faults start C E either (device_share start h).dones low images.kept);
               now = subst (λ b. SettledBy b new start (share_done disk.moment start h)) (sym going) (record {
                 pending = no_pending done t same_keys same_log images;
                 settled = λ k image least most is. record {

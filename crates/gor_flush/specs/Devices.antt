@@ -21,7 +21,8 @@ use Rattle.gor_flush.specs.declared.device.Device.{Device}
 -- Whether the disk tells its contents, what it tells, and how often it has failed. Whose files these are. The gated files
 -- that are appended to. The marks, and the logs that remain by them. What is taken and not written yet. Whether the device
 -- is stopped, and how many changes it has written since its opening. The files as its opening met them, the moment at which
--- it began, and how often the disk had failed when it ended.
+-- it began, and how often the disk had failed when it ended. What the disk told as the device stopped, and how often it had
+-- failed by then; while the device runs these two say nothing.
 pub record Shown : Type 0 where
   pub tells : Bool
   pub disk : DiskView
@@ -39,6 +40,8 @@ pub record Shown : Type 0 where
   pub given : Contents
   pub opened : ℕ
   pub begun : ℕ
+  pub last : DiskView
+  pub last_faults : ℕ
 
 -- by what a disk tells
 abbrev pub shown : {D : Type 0} → Bool → (D → DiskView) → (D → ℕ) → Device D → Shown
@@ -59,6 +62,8 @@ shown tells view faults d = record {
   given = (view d.first.value).seen;
   opened = (view d.first.value).moment;
   begun = faults d.begun.value;
+  last = view d.last.value;
+  last_faults = faults d.last.value;
 }
 
 -- ---- images
@@ -129,6 +134,15 @@ abbrev pub RunsBy : Bool → Shown → Start → DeviceShare → Type 0
 RunsBy true d start share = Rose d.begun d.faults
 RunsBy false d start share = IsRunning d start share
 
+-- since the device stopped, nothing changed of what its disk tells, nor its count of faults
+pub record IsStill (d : Shown) : Type 0 where
+  pub disk : d.disk ≡ d.last
+  pub faults : d.faults ≡ d.last_faults
+
+abbrev pub StillBy : Bool → Shown → Type 0
+StillBy true d = IsStill d
+StillBy false d = ⊤
+
 -- ---- what it is where the disk tells its contents and the files were fit at the opening
 
 pub record IsSettled (d : Shown) (start : Start) (share : DeviceShare) : Type 0 where
@@ -155,6 +169,7 @@ pub record StandsFor (d : Shown) (start : Start) (share : DeviceShare) : Type 0 
   pub stopped : d.stopped ≡ share.stopped
   pub since : IsTrue d.tells → d.opened ≤ d.disk.moment
   pub runs : RunsBy share.stopped d start share
+  pub still : StillBy share.stopped d
   pub images : IsTrue d.tells → start.fit ≡ true → HoldsAll d start share
 
 -- as the value of an object: whatever the object's number, the share is that of a device

@@ -1,5 +1,5 @@
 -- What keeps the changes of each Done.
-use Rattle.std.specs.Prelude.{◌≡◌, ℕ, ◌≤◌, List, ◌∷◌, ◌++◌}
+use Rattle.std.specs.Prelude.{◌≡◌, ℕ, ◌≤◌, List, ◌∷◌, ◌++◌, true, false, IsTrue}
 use Rattle.gor_disk.specs.Disk.{DiskView, LeavesSince, Runs}
 use Rattle.gor_model.specs.declared.event.Change.{Change}
 use Rattle.gor_model.specs.declared.start.Start.{Start}
@@ -30,6 +30,23 @@ DoneExtends = (d : Shown) (start : Start) (C : List Change) (count : ℕ) (dones
 -- a step that calls no disk keeps it
 abbrev pub StepKeeps : Type 0
 StepKeeps = (d e : Shown) (start : Start) (C E : List Change) (dones : List DoneAt) → HasSameDisk d e → Kept d start C dones → Kept e start (E ++ C) dones
+
+-- a device of the same opening, whose disk has gone on
+pub record IsOpenedAs (d e : Shown) : Type 0 where
+  pub shards : e.shards ≡ d.shards
+  pub shard : e.shard ≡ d.shard
+  pub tells : e.tells ≡ d.tells
+  pub opened : e.opened ≡ d.opened
+  pub begun : e.begun ≡ d.begun
+  pub later : IsTrue d.tells → d.disk.moment ≤ e.disk.moment
+
+-- Calls on the disk of a running device, of which one failed: where each of their images has at least the changes of its last
+-- Done, among those that had been taken and those of this last Take, the stopped device stands for what it stood for before
+-- these calls, with that Take and a Stop.
+abbrev pub StopsAfter : Shown → Shown → Type 0
+StopsAfter old new = (before : Shown) (start : Start) (share : DeviceShare) (E : List Change) → old.stopped ≡ false → IsOpenedAs before old → StandsFor before start share
+    → (IsTrue old.tells → start.fit ≡ true → Runs (HoldsPrefix before.shards before.shard start (E ++ share.taken) (last_count share.dones)) before.disk old.disk)
+    → StandsFor new start (device_stopped (record share { taken = E ++ share.taken }))
 
 -- whatever the device stands for, it stands for that with a Stop
 abbrev pub StandsStill : Shown → Shown → Type 0

@@ -34,6 +34,8 @@ pub struct Device<D: Disk> {
     // The disk as its opening began, and as it ended.
     pub(crate) first: Snapshot<D>,
     pub(crate) begun: Snapshot<D>,
+    // The disk as the device stopped, once it has.
+    pub(crate) last: Snapshot<D>,
 }
 
 impl<D: Disk> Thing for Device<D> {
@@ -72,6 +74,7 @@ impl<D: Disk> Device<D> {
     {
         let Prepared { files, list, tops } = prepared;
         let CurrentFiles { marks, keys, log } = files;
+        let last = Snapshot::of(&disk);
         Device {
             disk,
             marks,
@@ -86,6 +89,7 @@ impl<D: Disk> Device<D> {
             written: 0,
             first,
             begun,
+            last,
         }
     }
 

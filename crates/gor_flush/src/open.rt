@@ -8,6 +8,7 @@ ghost use Rattle.gor_image.specs.Openings.{CountsOpenFault, FaultCounts, IsMet};
 ghost use Rattle.gor_image.specs.Recovered.{IsRecovered};
 ghost use Rattle.gor_marks.specs.Spelling.{IsHome};
 ghost use Rattle.gor_flush.specs.Devices.{StandsFor, shown};
+ghost use Rattle.gor_flush.specs.Dropping.{AreDropped};
 ghost use Rattle.gor_flush.specs.Opening.{AreFiles, AreEnsured, HoldsOn, IsOpened, IsUnwritten};
 ghost use Rattle.gor_flush.specs.Preparing.{BeginsAt, device_marks};
 ghost use Rattle.gor_flush.specs.Starts.{start_with};
@@ -57,6 +58,7 @@ fn get_ready<D: Disk>(
     ensures held { IsTrue D.tells → HoldsOn shards shard ((D.view disk.old).seen) (D.view disk.old) (D.view disk.new) }
     ensures opened { IsTrue D.tells → IfOk result (λ r. IsOpened shards shard ((D.view disk.old).seen) (device_marks shards shard r.recovered.marks.items) r.recovered.tops.items (D.view disk.new)) }
     ensures rest { IsTrue D.tells → OnOk result (NothingPending (D.view disk.new)) }
+    ensures dropped { IsTrue D.tells → IfOk result (λ r. AreDropped (device_marks shards shard r.recovered.marks.items) (D.view disk.new)) }
     ensures err { IsTrue D.tells → IfErr result (IsMet (opens_to ((D.view disk.old).seen) shards shard slots)) }
     ensures unwritten { IsTrue D.tells → IfErr result (λ fault. IsUnwritten fault (D.view disk.old) (D.view disk.new)) }
     ensures cause { CountsOpenFault result (D.faults disk.old) (D.faults disk.new) }
@@ -97,6 +99,7 @@ impl<D: Disk> Device<D> {
         ensures goes_err { IsTrue D.tells → IfErr result (λ e. GoesOn (D.view disk) (D.view e.disk)) }
         ensures held_err { IsTrue D.tells → IfErr result (λ e. HoldsOn shards shard ((D.view disk).seen) (D.view disk) (D.view e.disk)) }
         ensures rest { IsTrue D.tells → IfOk result (λ r. NothingPending (D.view r.0.disk)) }
+        ensures dropped { IsTrue D.tells → IfOk result (λ r. AreDropped r.0.list.items (D.view r.0.disk)) }
         ensures unwritten { IsTrue D.tells → IfErr result (λ e. IsUnwritten e.fault (D.view disk) (D.view e.disk)) }
         ensures err { IsTrue D.tells → IfErr result (λ e. IsMet (opens_to ((D.view disk).seen) shards shard slots) e.fault) }
         ensures cause { MatchResult result (λ r. D.faults r.0.disk ≡ D.faults disk) (λ e. FaultCounts e.fault (D.faults disk) (D.faults e.disk)) }

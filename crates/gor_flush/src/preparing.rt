@@ -5,6 +5,7 @@ ghost use Rattle.gor_image.specs.Images.{current};
 ghost use Rattle.gor_image.specs.Openings.{CountsOpenFault};
 ghost use Rattle.gor_image.specs.Recovered.{AreMarksOrNone};
 ghost use Rattle.gor_marks.specs.Spelling.{InLimits, spelling};
+ghost use Rattle.gor_flush.specs.Dropping.{AreDropped};
 ghost use Rattle.gor_flush.specs.Opening.{AreFiles, AreEnsured, HoldsOn, IsFresh, IsNoDamage, IsOpened, IsStore, WasFound};
 ghost use Rattle.gor_flush.specs.Preparing.{device_marks};
 ghost use Rattle.gor_flush.specs.Steps.{GoesOn};
@@ -67,6 +68,7 @@ fn prepare_fresh<D: Disk>(
     ensures goes { IsTrue D.tells → GoesOn (D.view disk.old) (D.view disk.new) }
     ensures held { IsTrue D.tells → HoldsOn shards shard ((D.view disk.old).seen) (D.view disk.old) (D.view disk.new) }
     ensures opened { IsTrue D.tells → IfOk result (λ r. IsOpened shards shard ((D.view disk.old).seen) (Mark.Home shards shard ∷ []) tops.now (D.view disk.new)) }
+    ensures dropped { IsTrue D.tells → IfOk result (λ r. AreDropped (Mark.Home shards shard ∷ []) (D.view disk.new)) }
     ensures undamaged { IsTrue D.tells → IfErr result IsNoDamage }
     ensures cause { CountsOpenFault result (D.faults disk.old) (D.faults disk.new) }
 {
@@ -102,6 +104,7 @@ fn prepare_store<D: Disk>(
     ensures goes { IsTrue D.tells → GoesOn (D.view disk.old) (D.view disk.new) }
     ensures held { IsTrue D.tells → HoldsOn shards shard ((D.view disk.old).seen) (D.view disk.old) (D.view disk.new) }
     ensures opened { IsTrue D.tells → IfOk result (λ r. IsOpened shards shard ((D.view disk.old).seen) marks.now tops.now (D.view disk.new)) }
+    ensures dropped { IsTrue D.tells → IfOk result (λ r. AreDropped marks.now (D.view disk.new)) }
     ensures undamaged { IsTrue D.tells → IfErr result IsNoDamage }
     ensures cause { CountsOpenFault result (D.faults disk.old) (D.faults disk.new) }
 {
@@ -135,6 +138,7 @@ pub(crate) fn prepare<D: Disk>(
     ensures goes { IsTrue D.tells → GoesOn (D.view disk.old) (D.view disk.new) }
     ensures held { IsTrue D.tells → HoldsOn shards shard ((D.view disk.old).seen) (D.view disk.old) (D.view disk.new) }
     ensures opened { IsTrue D.tells → IfOk result (λ r. IsOpened shards shard ((D.view disk.old).seen) (device_marks shards shard found.now.marks.items) found.now.tops.items (D.view disk.new)) }
+    ensures dropped { IsTrue D.tells → IfOk result (λ r. AreDropped (device_marks shards shard found.now.marks.items) (D.view disk.new)) }
     ensures undamaged { IsTrue D.tells → IfErr result IsNoDamage }
     ensures cause { CountsOpenFault result (D.faults disk.old) (D.faults disk.new) }
 {

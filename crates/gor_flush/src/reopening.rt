@@ -3,7 +3,7 @@ ghost use Rattle.std.specs.Prelude.{◌≡◌, ◌≢◌, [], IsTrue, IfOk, IfEr
 ghost use Rattle.gor_disk.specs.Disk.{NothingPending, CountsFault};
 ghost use Rattle.gor_image.specs.Images.{current};
 ghost use Rattle.gor_image.specs.Openings.{OnlyRead, CountsOpenFault};
-ghost use Rattle.gor_flush.specs.Dropping.{AreSomeMarks, KeepsBefore};
+ghost use Rattle.gor_flush.specs.Dropping.{AreDropped, AreSomeMarks, KeepsBefore};
 ghost use Rattle.gor_flush.specs.Opening.{AreFiles, AreRead, AreEnsured, AreWhole, IsNoDamage};
 ghost use Rattle.gor_flush.specs.ReadFiles.{ReadsAs};
 ghost use Rattle.gor_flush.specs.Steps.{GoesOn};
@@ -54,6 +54,7 @@ fn settle<D: Disk>(
     ensures goes { IsTrue D.tells → GoesOn (D.view disk.old) (D.view disk.new) }
     ensures kept { IsTrue D.tells → KeepsBefore marks.now (D.view disk.old) (D.view disk.new) }
     ensures rest { IsTrue D.tells → OnOk result (NothingPending (D.view disk.new)) }
+    ensures dropped { IsTrue D.tells → OnOk result (AreDropped marks.now (D.view disk.new)) }
     ensures reads { IsTrue D.tells → OnOk result (ReadsAs marks.now ((D.view disk.old).seen) ((D.view disk.new).seen)) }
     ensures cause { CountsFault result (D.faults disk.old) (D.faults disk.new) }
 {
@@ -78,6 +79,7 @@ pub(crate) fn reopen<D: Disk>(
     ensures goes { IsTrue D.tells → GoesOn (D.view disk.old) (D.view disk.new) }
     ensures kept { IsTrue D.tells → KeepsBefore marks.now (D.view disk.old) (D.view disk.new) }
     ensures rest { IsTrue D.tells → OnOk result (NothingPending (D.view disk.new)) }
+    ensures dropped { IsTrue D.tells → OnOk result (AreDropped marks.now (D.view disk.new)) }
     ensures reads { IsTrue D.tells → OnOk result (ReadsAs marks.now ((D.view disk.old).seen) ((D.view disk.new).seen)) }
     ensures whole { IsTrue D.tells → AreWhole (current marks.now) ((D.view disk.old).seen) → IfErr result IsNoDamage }
     ensures cause { CountsOpenFault result (D.faults disk.old) (D.faults disk.new) }

@@ -1,11 +1,11 @@
 // The device writes what a Take moved to its buffers.
-ghost use Rattle.std.specs.Prelude.{◌≡◌, false, is_err, IsTrue, OnErr, OnOk, vec_len};
+ghost use Rattle.std.specs.Prelude.{◌≡◌, true, false, is_err, IsTrue, OnErr, OnOk, vec_len};
 ghost use Rattle.gor_disk.specs.Disk.{CountsFault, Rose};
 ghost use Rattle.gor_gate.specs.Places.{IsEnsured};
 ghost use Rattle.gor_journal.specs.Bodies.{AreEmpty};
 ghost use Rattle.gor_journal.specs.Entries.{greater};
 ghost use Rattle.gor_flush.specs.Devices.{shown};
-ghost use Rattle.gor_flush.specs.Keeps.{StandsStill};
+ghost use Rattle.gor_flush.specs.Keeps.{StandsStill, StopsAfter};
 ghost use Rattle.gor_flush.specs.Lending.{holding};
 ghost use Rattle.gor_flush.specs.contracts.device.Device.{the_row};
 ghost use Rattle.gor_journal.specs.contracts.buffers.Buffers.{the_row as buffers_row};
@@ -18,6 +18,7 @@ use crate::device::Device;
 use gor_disk::{DeviceFault, Disk};
 use gor_image::LogTop;
 use gor_journal::Buffers;
+use std::snapshot::Snapshot;
 
 impl<D: Disk> Device<D> {
     /// The buffers, to which a Take moves what the journal gathered. It takes no memory.
@@ -29,13 +30,20 @@ impl<D: Disk> Device<D> {
     }
 
     /// Stops the device: no call writes its disk any more, until it is opened again. The disk's count of faults has risen
-    /// since the end of the opening. It takes no memory and calls no disk.
+    /// since the end of the opening. From here on the device stands for its share only while its disk is as it is now; one
+    /// that is stopped already is left as it was. It takes no memory and calls no disk.
     pub fn stop(&mut self)
         requires rose { Rose (D.faults self.old.begun.value) (D.faults self.old.disk) }
         ensures disk { self.new.disk ≡ self.old.disk }
+        ensures stopped { self.new.stopped ≡ true }
+        ensures again { self.old.stopped ≡ true → self.new ≡ self.old }
+        ensures after { StopsAfter (shown D.tells D.view D.faults self.old) (shown D.tells D.view D.faults self.new) }
         ensures stands { StandsStill (shown D.tells D.view D.faults self.old) (shown D.tells D.view D.faults self.new) }
     {
-        self.stopped = true;
+        if !self.stopped {
+            self.stopped = true;
+            self.last = Snapshot::of(&self.disk);
+        }
     }
 
     /// Writes what a Take moved to the buffers, through the key list and then the log, and gives the count of changes on the
@@ -73,6 +81,7 @@ impl<D: Disk> Device<D> {
             }
             Err(fault) => {
                 self.stopped = true;
+                self.last = Snapshot::of(&self.disk);
                 Err(fault)
             }
         }

@@ -1,5 +1,5 @@
 // A gated file.
-ghost use Rattle.std.specs.Prelude.{◌≡◌, ◌≢◌, ◌<◌, ◌≤◌, ◌^◌, IsTrue, OnOk};
+ghost use Rattle.std.specs.Prelude.{◌≡◌, ◌≢◌, ◌<◌, ◌≤◌, ◌^◌, [], ◌∷◌, IsTrue, OnOk};
 ghost use Rattle.gor_disk.specs.Disk.{IsImage, IsSettled, Touches, CountsFault, wrote, held_now};
 ghost use Rattle.gor_gate.specs.Gates.{gates, IsClosed, IsOldOrNew, pushed};
 ghost use Rattle.gor_gate.specs.Places.{IsRead, IsEnsured};
@@ -69,7 +69,7 @@ impl Gated {
     /// It takes no memory. The file is on this disk as it was read, and where it has more than one byte nothing is
     /// pending in it.
     ///
-    /// A file of at most one byte gets a shut gate at place 0, and one whose list ends at its end gets a shut gate there,
+    /// A file of at most one byte gets a shut gate at place 0, and then is the one byte 0, and one whose list ends at its end gets a shut gate there,
     /// each by a write and a sync. Any other file is left alone. `DiskFailed` comes only where the disk's count of faults
     /// rose; the file is then to be read again before it is used. What a crash may leave within the call is the file with
     /// one byte written, and for a file of at most one byte with nothing pending that is the empty list at each moment.
@@ -80,6 +80,7 @@ impl Gated {
         ensures any_moment { IsTrue D.tells → Touches self.old.file (IsImage (wrote self.old.gate 1 (held_now (D.view disk.old) self.old.file))) (D.view disk.old) (D.view disk.new) }
         ensures kept { IsTrue D.tells → IsSettled (D.view disk.old) self.old.file → self.old.len ≤ 1
             → Touches self.old.file (λ c. (gates c ≡ gates ((D.view disk.old).seen self.old.file)) × IsClosed c) (D.view disk.old) (D.view disk.new) }
+        ensures byte { IsTrue D.tells → self.old.len ≤ 1 → OnOk result ((D.view disk.new).seen self.old.file ≡ 0 ∷ []) }
         ensures alone { 1 < self.old.len → self.old.gate ≢ self.old.len → disk.new ≡ disk.old }
         ensures ensured { IsTrue D.tells → OnOk result (IsEnsured self.new (D.view disk.new)) }
         ensures same { IsTrue D.tells → OnOk result (gates ((D.view disk.new).seen self.old.file) ≡ gates ((D.view disk.old).seen self.old.file)) }

@@ -1,11 +1,13 @@
 //! Openings of a shard's device, and the files that the last mark replaces.
-ghost use Rattle.std.specs.Prelude.{◌≤◌, IsTrue, IfOk, OnOk};
+ghost use Rattle.std.specs.Prelude.{◌≤◌, IsTrue, IfOk, IfSome, OnOk};
 ghost use Rattle.gor_disk.specs.Disk.{NothingPending};
 ghost use Rattle.gor_marks.specs.Spelling.{IsHome};
 ghost use Rattle.gor_model.specs.Windows.{slots_of_a_shard};
 
-use crate::laid::{KEYS, LOG, MARKS};
+use crate::laid::{KEYS, LOG, MARKS, write};
 use crate::reader::has;
+use crate::reads::looks;
+use crate::sealed::lay_store;
 use gor_disk::{Disk, DiskCall, DiskFailed, DiskKind, FileId, MemoryDisk};
 use gor_flush::{Device, NoDevice, drop_old};
 use gor_image::{ImageFault, OpenFault};
@@ -94,6 +96,29 @@ fn an_empty_disk_gets_its_first_mark(rt: HostRuntime) {
     assert!(rt; has(rt.alloc(), &mut disk, FileId::Log(0), &SHUT));
 }
 
+// Whether calls look at the marks, and at nothing else, before the first that changes a file.
+fn begins_with_marks(calls: &[DiskCall]) -> bool {
+    let mut seen = false;
+    for call in calls {
+        if !looks(call) {
+            return seen;
+        }
+        if call.file != FileId::Marks {
+            return false;
+        }
+        seen = true;
+    }
+    false
+}
+
+#[test]
+fn a_fresh_opening_looks_at_the_marks_alone_before_it_writes(rt: HostRuntime) {
+    let Ok(disk) = fresh(rt.alloc()) else {
+        panic!(rt; "the empty disk was refused");
+    };
+    assert!(rt; begins_with_marks(disk.calls()));
+}
+
 #[test]
 fn it_opens_again_with_the_same_home(rt: HostRuntime) {
     let Ok(mut disk) = opened_again(rt.alloc()) else {
@@ -163,4 +188,71 @@ fn replaced_files_are_cut(rt: HostRuntime) {
         FileId::Block(3),
     ];
     assert!(rt; cuts(disk.calls(), &cut));
+}
+
+// ---- an opening of a store with three sealed windows
+
+// The last mark replaces the second of these and the block file of window 10. The others were replaced by the marks before it.
+const LEFT_OVER: [FileId; 3] = [FileId::Keys(1), FileId::Keys(2), FileId::Log(1)];
+
+// The store, with a byte in each file that a mark has replaced.
+fn with_left_over(alloc: Global) -> Option<MemoryDisk>
+    ensures { IfSome result (λ disk. NothingPending (⟦<MemoryDisk as Disk>⟧.view disk)) }
+{
+    let mut disk = MemoryDisk::new(alloc);
+    if !lay_store(alloc, &mut disk) {
+        return None;
+    }
+    for file in LEFT_OVER {
+        if !write(&mut disk, file, 0, &[7]) {
+            return None;
+        }
+    }
+    disk.image(disk.calls().len() as u64, 1).ok()
+}
+
+fn opened_left_over(alloc: Global) -> Option<MemoryDisk> {
+    let disk = with_left_over(alloc)?;
+    opened(alloc, disk, 1, 0, 4).ok()
+}
+
+// The calls of its opening that change a file or make one stable.
+const CUTS: [(DiskKind, FileId); 4] = [
+    (DiskKind::Cut, FileId::Keys(2)),
+    (DiskKind::Sync, FileId::Keys(2)),
+    (DiskKind::Cut, FileId::Block(10)),
+    (DiskKind::Sync, FileId::Block(10)),
+];
+
+// Whether the calls that do not only look are these, one after another, and each cut is to no bytes.
+fn writes_are(calls: &[DiskCall], want: &[(DiskKind, FileId)]) -> bool {
+    let mut at = 0;
+    for call in calls {
+        if !looks(call) {
+            if at >= want.len() || (call.kind, call.file) != want[at] || call.len != 0 {
+                return false;
+            }
+            at += 1;
+        }
+    }
+    at == want.len()
+}
+
+// What is in these files then.
+const AFTER: [(FileId, &[u8]); 4] = [
+    (FileId::Keys(1), &[7]),
+    (FileId::Keys(2), &[]),
+    (FileId::Log(1), &[7]),
+    (FileId::Block(10), &[]),
+];
+
+#[test]
+fn an_opening_cuts_what_the_last_mark_replaces(rt: HostRuntime) {
+    let Some(mut disk) = opened_left_over(rt.alloc()) else {
+        panic!(rt; "the store was refused");
+    };
+    assert!(rt; writes_are(disk.calls(), &CUTS));
+    for (file, bytes) in AFTER {
+        assert!(rt; has(rt.alloc(), &mut disk, file, bytes), "{file:?}");
+    }
 }

@@ -15,7 +15,8 @@ fn behind(calls: &[DiskCall], laid: usize) -> &[DiskCall] {
     }
 }
 
-fn looks(call: &DiskCall) -> bool {
+/// Whether a call changes nothing.
+pub(crate) fn looks(call: &DiskCall) -> bool {
     matches!(call.kind, DiskKind::Len | DiskKind::Read)
 }
 
@@ -85,6 +86,15 @@ fn a_read_that_fails_is_told(rt: HostRuntime) {
             assert!(rt; told, "{file:?}, call {number}");
         }
     }
+}
+
+// ---- an empty disk
+
+#[test]
+fn an_empty_disk_is_asked_for_its_marks_alone(rt: HostRuntime) {
+    let mut disk = MemoryDisk::new(rt.alloc());
+    assert!(rt; fault_of(rt.alloc(), &mut disk, ONLY).is_none());
+    assert!(rt; looks_at(disk.calls(), &[FileId::Marks]));
 }
 
 // ---- the store with three sealed windows

@@ -34,6 +34,7 @@ of_any_rows d r silent floor next st = record {
       files = st.runs.files;
       ensured = st.runs.ensured;
     };
+    still = tt;
     images = λ told fit. absurd (false≢true (sym silent ∙ told));
   };
 }

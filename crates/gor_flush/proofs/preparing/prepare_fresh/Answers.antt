@@ -1,5 +1,6 @@
 use Rattle.std.proofs.Common.{refl}
 use Rattle.gor_flush.proofs.Prepares.{fresh_holds, fresh_holds_yet, fresh_opened}
+use Rattle.gor_flush.proofs.Dropped.{home_replaces_none}
 use Rattle.gor_flush.proofs.Steps.{goes_still}
 use Rattle.gor_flush.proofs.preparing.prepare_fresh.Goals as goal
 
@@ -29,3 +30,6 @@ returns-clause-held g c = λ t. fresh_holds c.args.shards c.args.shard _ (g.D.Di
 
 pub returns-clause-opened : goal.returns-clause-opened
 returns-clause-opened g c = λ t. fresh_opened c.args.shards c.args.shard _ c.args.tops.now (g.D.Disk.view c.begin.new.disk) (c.requires.fresh t) (λ un. c.in_ok-files.ensures.begun t un) (c.in_ok-files.ensures.rest t) (c.in_ok-files.ensures.logs t)
+
+pub returns-clause-dropped : goal.returns-clause-dropped
+returns-clause-dropped g c = λ t. home_replaces_none c.args.shards c.args.shard (g.D.Disk.view c.begin.new.disk)

@@ -1,4 +1,4 @@
-use Rattle.std.proofs.Common.{refl, true, ◌+◌}
+use Rattle.std.proofs.Common.{refl, sym, ap, true, ◌+◌}
 use Rattle.gor_flush.specs.Devices.{shown}
 use Rattle.gor_flush.specs.Takes.{with_buffers}
 use Rattle.gor_flush.proofs.Written.{all_counted, stands_done, stands_stopped}
@@ -9,6 +9,7 @@ returns-in-Ok-clause-done g c = λ start h has.
     stands_done (with_buffers has.before (shown g.D.Disk.tells g.D.Disk.view g.D.Disk.faults c.args.self.now)) c.args.self.now.buffers start h has.begins has.legal has.short has.runs has.stood has.taken
     (g.D.Disk.view c.append_taken.new.disk) (g.D.Disk.faults c.append_taken.new.disk) c.append_taken.new.keys c.append_taken.new.log c.raise_last.new.tops.items c.append_taken.new.buffers
     c.args.self.now.stopped (c.args.self.now.written + c.args.self.now.buffers.changes)
+    (g.D.Disk.view c.args.self.now.last.value) (g.D.Disk.faults c.args.self.now.last.value)
     c.in-Ok.ensures.cause c.append_taken.ensures.key_file c.append_taken.ensures.log_file c.in-Ok.ensures.emptied c.raise_last.ensures refl refl
     (λ t. record {
       called = record {
@@ -31,8 +32,8 @@ pub returns-in-Err-clause-stopped : goal.returns-in-Err-clause-stopped
 returns-in-Err-clause-stopped g c = λ start h has.
     stands_stopped (with_buffers has.before (shown g.D.Disk.tells g.D.Disk.view g.D.Disk.faults c.args.self.now)) c.args.self.now.buffers start h has.begins has.legal has.short has.runs has.stood has.taken
     (g.D.Disk.view c.append_taken.new.disk) (g.D.Disk.faults c.append_taken.new.disk) c.append_taken.new.keys c.append_taken.new.log c.args.self.now.tops.items c.append_taken.new.buffers
-    true c.args.self.now.written
-    refl c.in-Err.ensures.cause
+    true c.args.self.now.written (g.D.Disk.view c.of.result.value) (g.D.Disk.faults c.of.result.value)
+    refl c.in-Err.ensures.cause (ap g.D.Disk.view (sym c.of.ensures)) (ap g.D.Disk.faults (sym c.of.ensures))
     (λ t. record {
       stays = λ f. g.met.D.Disk.seen_may_stay c.args.self.now.disk f t;
       any_moment = c.append_taken.ensures.any_moment t;
