@@ -1,5 +1,5 @@
 -- What a run of one lane wrote is the only text that answers it.
-use Rattle.std.proofs.Common.{◌≡◌, ℕ, zero, suc, ◌<◌, List, [], ◌∷◌, ◌++◌, Option, Bool, true, false, ◌||◌, refl, sym, ap, subst, ◌∙◌, arith}
+use Rattle.std.proofs.Common.{◌≡◌, ℕ, zero, suc, ◌<◌, List, [], ◌∷◌, ◌++◌, Bool, true, false, ◌||◌, refl, sym, ap, subst, ◌∙◌, arith}
 use Rattle.gor_disk.specs.Disk.{DiskView}
 use Rattle.gor_disk.specs.Disk as disk
 use Rattle.gor_model.specs.declared.start.Start.{Start}
@@ -12,7 +12,7 @@ use Rattle.gor_store.specs.Sessions.{IsToldBy}
 use Rattle.gor_store.specs.Shards.{BeginsFrom}
 use Rattle.gor_store.proofs.InOrder.{is_start}
 use Rattle.gor_run.specs.Dumps.{CallsFirst}
-use Rattle.gor_run.specs.Runs.{Answers, IsOnlyText, WritesOneText}
+use Rattle.gor_run.specs.Runs.{Answers, IsOnlyText, Ran, WritesOneText}
 
 pub first_also : {D : Type 0} (P Q : D → D → Type 0) → ((disk now : D) → P disk now → Q disk now) → (disks others : List D) → CallsFirst P disks others → CallsFirst Q disks others
 first_also P Q gives [] [] first = absurd first
@@ -47,16 +47,15 @@ module _ {D : Type 0} (tells : Bool) (view : D → DiskView) (faults : D → ℕ
     by true is = absurd (quiet (rose is))
     by false is = is
 
-  pub writes_one_text : (words : List (List ℕ)) (before after held written : Option (List ℕ)) (old new : D) → Answers tells view faults words before after held written old new
-      → (disk.Rose (faults old) (faults new) → ⊥) → WritesOneText tells view faults words before after held written old new
-  writes_one_text words before after held written old new a quiet =
-      let whole = a.ends.whole in record {
-        slots = a.slots;
-        phases = a.phases;
-        asked = a.asked;
-        start = whole.start;
-        begins = whole.session.begins;
-        text = a.ends.text;
-        appended = a.ends.appended;
-        only = only_text whole.start a.phases a.ends.text whole.history (starts a.slots (view old) (faults old) whole.start whole.session.begins) whole.told.told (still whole.history old new whole.session.rose quiet);
-      }
+pub writes_one_text : {D : Type 0} (run : Ran D) (old new : D) → Answers run old new → (disk.Rose (run.disk.faults old) (run.disk.faults new) → ⊥) → WritesOneText run old new
+writes_one_text run old new a quiet =
+    let whole = a.ends.whole in record {
+      slots = a.slots;
+      phases = a.phases;
+      asked = a.asked;
+      start = whole.start;
+      begins = whole.session.begins;
+      text = a.ends.text;
+      appended = a.ends.appended;
+      only = only_text whole.start a.phases a.ends.text whole.history (starts run.disk.tells run.disk.view run.disk.faults a.slots (run.disk.view old) (run.disk.faults old) whole.start whole.session.begins) whole.told.told (still run.disk.tells run.disk.view run.disk.faults whole.history old new whole.session.rose quiet);
+    }

@@ -1,5 +1,5 @@
 -- The clauses of a run whose store was opened, and of one whose store was not.
-use Rattle.std.proofs.Common.{◌≡◌, ◌⊎◌, inl, inr, ℕ, List, ◌∷◌, Option, Some, Ok, Err, IsTrue, Bool, refl, sym, ap, subst, ◌∙◌}
+use Rattle.std.proofs.Common.{◌≡◌, ◌⊎◌, inl, inr, ℕ, List, ◌∷◌, Option, Some, Ok, Err, IsTrue, refl, sym, ap, subst, ◌∙◌}
 use Rattle.std.specs.Prelude.{IsOk}
 use Rattle.std.proofs.lemmas.Bool.{false≢true}
 use Rattle.std.specs.Io.KnownBytes.{Keeps}
@@ -17,9 +17,9 @@ use Rattle.gor_hall.specs.Halls.{start_of}
 use Rattle.gor_store.specs.Stores.{WasRefused, others_of}
 use Rattle.gor_store.specs.declared.store.Store.{Store}
 use Rattle.gor_store.specs.declared.store.NotStored.{NotStored}
-use Rattle.gor_run.specs.declared.outcome.Outcome.{Outcome}
-use Rattle.gor_run.specs.Dumps.{CallsFirst}
-use Rattle.gor_run.specs.Runs.{IsAsked, Answers, Stops, BreaksOff, RunsShort, IsUnopened}
+use Rattle.gor_run.specs.Dumps.{CallsFirst, EndsAs, FaultShows}
+use Rattle.gor_run.specs.Ends.{BrokeOff, MeetsDeviceFault, MeetsImageFault, OnFirst, WantedMemory}
+use Rattle.gor_run.specs.Runs.{IsAsked, Ran, Answers, Stops, BreaksOff, IsUnopened}
 use Rattle.gor_run.specs.Serving.{EndsBy, unopened_status}
 use Rattle.gor_run.specs.Statuses.{IsRead, CallsNoDisk, WritesNothing}
 use Rattle.gor_run.specs.Words.{slots_of_run}
@@ -27,151 +27,164 @@ use Rattle.gor_run.specs.declared.status.Status.{Status}
 use Rattle.gor_run.specs.declared.status.Status.TheVariants as status
 use Rattle.gor_run.proofs.RunSteps.{HasFirst, calls_first, calls_as, calls_any, calls_known}
 
-pub asked_for : (words : List (List ℕ)) (before after : Option (List ℕ)) (slots : ℕ) (phases : List (List (List Line))) → slots_of_run words ≡ Some slots → IsRead before after phases → IsAsked words before after slots phases
+asked_for : (words : List (List ℕ)) (before after : Option (List ℕ)) (slots : ℕ) (phases : List (List (List Line))) → slots_of_run words ≡ Some slots → IsRead before after phases → IsAsked words before after slots phases
 asked_for words before after slots phases asked read = record { input = read.input; asked = asked; read = read.whole; said = read.said }
 
 -- ---- a store that was opened
 
-pub opened_first : {D : Type 0} (tells : Bool) (view : D → DiskView) (faults : D → ℕ) (slots : ℕ) (disks backs : List D) (store : Store D) (P : ℕ → D → D → Type 0) (f : HasFirst disks)
-    → ((first : D) (others : List D) → disks ≡ first ∷ others → (others_of store ≡ others) × ((start_of store.hall).slots ≡ slots) × BeginsFrom 1 0 slots tells (view first) (faults first) (start_of store.hall))
-    → ((first : D) (n : ℕ) → BeginsFrom 1 0 n tells (view first) (faults first) (start_of store.hall) → CallsFirst (P n) (first ∷ others_of store) backs) → CallsFirst (P slots) disks backs
-opened_first tells view faults slots disks backs store P f begins calls =
+-- what stands of a run by a status, on a store with so many slots
+abbrev pub Ending : {D : Type 0} → Ran D → (slots : ℕ) → List (List (List Line)) → Status → D → D → Type 0
+Ending run slots phases t first now =
+    EndsBy run.disk.tells run.disk.view run.disk.faults t slots phases run.held_before run.held_after run.faults_before run.faults_after first now
+
+-- the run read phases, opened the store, and ended with what stands by its status
+pub record WasOpened {D : Type 0} (run : Ran D) (slots : ℕ) : Type 0 where
+  pub phases : List (List (List Line))
+  pub asked : IsAsked run.words run.left_before run.left_after slots phases
+  pub calls : CallsFirst (Ending run slots phases run.status) run.disks run.backs
+
+opened_first : {D : Type 0} (run : Ran D) (slots : ℕ) (store : Store D) (P : ℕ → D → D → Type 0) (f : HasFirst run.disks)
+    → ((first : D) (others : List D) → run.disks ≡ first ∷ others → (others_of store ≡ others) × ((start_of store.hall).slots ≡ slots) × BeginsFrom 1 0 slots run.disk.tells (run.disk.view first) (run.disk.faults first) (start_of store.hall))
+    → ((first : D) (n : ℕ) → BeginsFrom 1 0 n run.disk.tells (run.disk.view first) (run.disk.faults first) (start_of store.hall) → CallsFirst (P n) (first ∷ others_of store) run.backs) → CallsFirst (P slots) run.disks run.backs
+opened_first run slots store P f begins calls =
     let b = begins f.first f.others f.are in
-    subst (λ (ds : List _). CallsFirst (P slots) ds backs) (ap (λ (others : List _). f.first ∷ others) b.0 ∙ sym f.are) (calls f.first slots b.2)
+    subst (λ (ds : List _). CallsFirst (P slots) ds run.backs) (ap (λ (others : List _). f.first ∷ others) b.0 ∙ sym f.are) (calls f.first slots b.2)
 
-module _ {D : Type 0} (tells : Bool) (view : D → DiskView) (faults : D → ℕ) (words : List (List ℕ)) (before after held grown : Option (List ℕ)) (sink_before sink_after : ℕ)
-    (slots : ℕ) (phases : List (List (List Line))) (asks : IsAsked words before after slots phases) (disks backs : List D) (s : Status) where
-  module _ (calls : CallsFirst (λ first now. EndsBy tells view faults s slots phases held grown sink_before sink_after first now) disks backs) where
-    as_status : (t : Status) → s ≡ t → CallsFirst (λ first now. EndsBy tells view faults t slots phases held grown sink_before sink_after first now) disks backs
-    as_status t is = subst (λ u. CallsFirst (λ first now. EndsBy tells view faults u slots phases held grown sink_before sink_after first now) disks backs) is calls
+pub was_opened : {D : Type 0} (run : Ran D) (slots : ℕ) (phases said : List (List (List Line))) → phases ≡ said → slots_of_run run.words ≡ Some slots → IsRead run.left_before run.left_after said
+    → (store : Store D) (f : HasFirst run.disks)
+    → ((first : D) (others : List D) → run.disks ≡ first ∷ others → (others_of store ≡ others) × ((start_of store.hall).slots ≡ slots) × BeginsFrom 1 0 slots run.disk.tells (run.disk.view first) (run.disk.faults first) (start_of store.hall))
+    → ((first : D) (n : ℕ) → BeginsFrom 1 0 n run.disk.tells (run.disk.view first) (run.disk.faults first) (start_of store.hall) → CallsFirst (Ending run n phases run.status) (first ∷ others_of store) run.backs)
+    → WasOpened run slots
+was_opened run slots phases said same named read store f begins calls = record {
+  phases = phases;
+  asked = asked_for run.words run.left_before run.left_after slots phases named (subst (IsRead run.left_before run.left_after) (sym same) read);
+  calls = opened_first run slots store (λ n. Ending run n phases run.status) f begins calls;
+}
 
-    -- no other status stands
-    pub none_other : (t : Status) → ((first now : D) → EndsBy tells view faults t slots phases held grown sink_before sink_after first now → ⊥) → s ≡ t → ⊥
-    none_other t never is = calls_any (λ first now. EndsBy tells view faults t slots phases held grown sink_before sink_after first now) ⊥ disks backs never (as_status t is)
+module _ {D : Type 0} {run : Ran D} {slots : ℕ} (o : WasOpened run slots) where
+  abbrev Ended : Status → D → D → Type 0
+  Ended = Ending run slots o.phases
 
-    pub opened_answered : s ≡ status.Ok → CallsFirst (λ first now. Answers tells view faults words before after held grown first now) disks backs
-    opened_answered is = calls_as (λ first now. EndsBy tells view faults status.Ok slots phases held grown sink_before sink_after first now) (λ first now. Answers tells view faults words before after held grown first now) disks backs
-        (λ first now e. record { slots = slots; phases = phases; asked = asks; ends = e.0 }) (as_status status.Ok is)
+  as_status : (t : Status) → run.status ≡ t → CallsFirst (Ended t) run.disks run.backs
+  as_status t is = subst (λ u. CallsFirst (Ended u) run.disks run.backs) is o.calls
 
-    pub opened_quiet : s ≡ status.Ok → sink_after ≡ sink_before
-    opened_quiet is = calls_any (λ first now. EndsBy tells view faults status.Ok slots phases held grown sink_before sink_after first now) (sink_after ≡ sink_before) disks backs (λ first now e. e.1) (as_status status.Ok is)
+  -- no other status stands
+  pub none_other : (t : Status) → ((first now : D) → Ended t first now → ⊥) → run.status ≡ t → ⊥
+  none_other t never is = calls_any (Ended t) ⊥ run.disks run.backs never (as_status t is)
 
-    pub opened_device : (shard : ℕ) → s ≡ status.DeviceFault shard
-        → CallsFirst (λ first now. (shard ≡ 0) × disk.Rose (faults first) (faults now) × ((IsUnopened tells view faults words before after refused.Disk first now × Keeps held grown × (sink_after ≡ sink_before))
-        ⊎ Stops tells view faults words before after held grown sink_before sink_after first now)) disks backs
-    opened_device shard is = calls_as (λ first now. EndsBy tells view faults (status.DeviceFault shard) slots phases held grown sink_before sink_after first now)
-        (λ first now. (shard ≡ 0) × disk.Rose (faults first) (faults now) × ((IsUnopened tells view faults words before after refused.Disk first now × Keeps held grown × (sink_after ≡ sink_before))
-        ⊎ Stops tells view faults words before after held grown sink_before sink_after first now)) disks backs
-        (λ first now e. (e.0, e.1, inr record { slots = slots; phases = phases; asked = asks; ends = e.2 })) (as_status (status.DeviceFault shard) is)
+  pub opened_answered : run.status ≡ status.Ok → OnFirst Answers run
+  opened_answered is = calls_as (Ended status.Ok) (Answers run) run.disks run.backs
+      (λ first now e. record { slots = slots; phases = o.phases; asked = o.asked; ends = e.0 }) (as_status status.Ok is)
 
-    pub opened_write : s ≡ status.WriteFault → Rose sink_before sink_after × CallsFirst (λ first now. BreaksOff tells view faults words before after held grown first now) disks backs
-    opened_write is = (
-      calls_any (λ first now. EndsBy tells view faults status.WriteFault slots phases held grown sink_before sink_after first now) (Rose sink_before sink_after) disks backs (λ first now e. e.1) (as_status status.WriteFault is),
-      calls_as (λ first now. EndsBy tells view faults status.WriteFault slots phases held grown sink_before sink_after first now) (λ first now. BreaksOff tells view faults words before after held grown first now) disks backs
-          (λ first now e. record { slots = slots; phases = phases; asked = asks; ends = e.0 }) (as_status status.WriteFault is),
-    )
+  pub opened_quiet : run.status ≡ status.Ok → run.faults_after ≡ run.faults_before
+  opened_quiet is = calls_any (Ended status.Ok) (run.faults_after ≡ run.faults_before) run.disks run.backs (λ first now e. e.1) (as_status status.Ok is)
 
-    pub opened_memory : s ≡ status.NoMemory → (sink_after ≡ sink_before)
-        × CallsFirst (λ first now. (Keeps held grown × ((now ≡ first) ⊎ IsUnopened tells view faults words before after refused.NoMemory first now)) ⊎ RunsShort tells view faults words before after held grown first now) disks backs
-    opened_memory is = (
-      calls_any (λ first now. EndsBy tells view faults status.NoMemory slots phases held grown sink_before sink_after first now) (sink_after ≡ sink_before) disks backs (λ first now e. e.1) (as_status status.NoMemory is),
-      calls_as (λ first now. EndsBy tells view faults status.NoMemory slots phases held grown sink_before sink_after first now)
-          (λ first now. (Keeps held grown × ((now ≡ first) ⊎ IsUnopened tells view faults words before after refused.NoMemory first now)) ⊎ RunsShort tells view faults words before after held grown first now) disks backs
-          (λ first now e. inr record { slots = slots; phases = phases; asked = asks; ends = e.0 }) (as_status status.NoMemory is),
-    )
+  pub opened_device : (shard : ℕ) → MeetsDeviceFault shard run
+  opened_device shard is = calls_as (Ended (status.DeviceFault shard)) _ run.disks run.backs
+      (λ first now e. (e.0, e.1, inr record { slots = slots; phases = o.phases; asked = o.asked; ends = e.2 })) (as_status (status.DeviceFault shard) is)
 
-    writes : (t : Status) → WritesNothing t → (first now : D) → EndsBy tells view faults t slots phases held grown sink_before sink_after first now → ⊥
-    writes status.Ok nothing first now e = nothing
-    writes (status.DeviceFault shard) nothing first now e = nothing
-    writes status.WriteFault nothing first now e = nothing
-    writes status.NoMemory nothing first now e = nothing
-    writes status.Words nothing first now e = e
-    writes status.ReadFault nothing first now e = e
-    writes status.TooLong nothing first now e = e
-    writes (status.BadLine line) nothing first now e = e
-    writes (status.NotOpened shard fault) nothing first now e = e
+  pub opened_write : run.status ≡ status.WriteFault → BrokeOff run
+  opened_write is = (
+    calls_any (Ended status.WriteFault) (Rose run.faults_before run.faults_after) run.disks run.backs (λ first now e. e.1) (as_status status.WriteFault is),
+    calls_as (Ended status.WriteFault) (BreaksOff run) run.disks run.backs
+        (λ first now e. record { slots = slots; phases = o.phases; asked = o.asked; ends = e.0 }) (as_status status.WriteFault is),
+  )
 
-    pub opened_writes : WritesNothing s → ⊥
-    opened_writes nothing = calls_any (λ first now. EndsBy tells view faults s slots phases held grown sink_before sink_after first now) ⊥ disks backs (writes s nothing) calls
+  pub opened_memory : run.status ≡ status.NoMemory → WantedMemory run
+  opened_memory is = (
+    calls_any (Ended status.NoMemory) (run.faults_after ≡ run.faults_before) run.disks run.backs (λ first now e. e.1) (as_status status.NoMemory is),
+    calls_as (Ended status.NoMemory) _ run.disks run.backs
+        (λ first now e. inr record { slots = slots; phases = o.phases; asked = o.asked; ends = e.0 }) (as_status status.NoMemory is),
+  )
 
-    called : (t : Status) → CallsNoDisk t → (first now : D) → EndsBy tells view faults t slots phases held grown sink_before sink_after first now → ⊥
-    called status.Ok never first now e = never
-    called (status.DeviceFault shard) never first now e = never
-    called status.WriteFault never first now e = never
-    called status.NoMemory never first now e = never
-    called status.Words never first now e = e
-    called status.ReadFault never first now e = e
-    called status.TooLong never first now e = e
-    called (status.BadLine line) never first now e = e
-    called (status.NotOpened shard fault) never first now e = e
+  writes : (t : Status) → WritesNothing t → (first now : D) → Ended t first now → ⊥
+  writes status.Ok nothing first now e = nothing
+  writes (status.DeviceFault shard) nothing first now e = nothing
+  writes status.WriteFault nothing first now e = nothing
+  writes status.NoMemory nothing first now e = nothing
+  writes status.Words nothing first now e = e
+  writes status.ReadFault nothing first now e = e
+  writes status.TooLong nothing first now e = e
+  writes (status.BadLine line) nothing first now e = e
+  writes (status.NotOpened shard fault) nothing first now e = e
 
-    pub opened_calls : CallsNoDisk s → ⊥
-    opened_calls never = calls_any (λ first now. EndsBy tells view faults s slots phases held grown sink_before sink_after first now) ⊥ disks backs (called s never) calls
+  pub opened_writes : WritesNothing run.status → ⊥
+  opened_writes nothing = calls_any (Ended run.status) ⊥ run.disks run.backs (writes run.status nothing) o.calls
 
-    ends_well : (t : Status) (first now : D) → ¬ (Rose sink_before sink_after) → ¬ (disk.Rose (faults first) (faults now)) → EndsBy tells view faults t slots phases held grown sink_before sink_after first now
-        → (t ≡ status.Ok) ⊎ (t ≡ status.NoMemory)
-    ends_well status.Ok first now quiet still e = inl refl
-    ends_well (status.DeviceFault shard) first now quiet still e = absurd (still e.1)
-    ends_well status.WriteFault first now quiet still e = absurd (quiet e.1)
-    ends_well status.NoMemory first now quiet still e = inr refl
-    ends_well status.Words first now quiet still e = absurd e
-    ends_well status.ReadFault first now quiet still e = absurd e
-    ends_well status.TooLong first now quiet still e = absurd e
-    ends_well (status.BadLine line) first now quiet still e = absurd e
-    ends_well (status.NotOpened shard fault) first now quiet still e = absurd e
+  called : (t : Status) → CallsNoDisk t → (first now : D) → Ended t first now → ⊥
+  called status.Ok never first now e = never
+  called (status.DeviceFault shard) never first now e = never
+  called status.WriteFault never first now e = never
+  called status.NoMemory never first now e = never
+  called status.Words never first now e = e
+  called status.ReadFault never first now e = e
+  called status.TooLong never first now e = e
+  called (status.BadLine line) never first now e = e
+  called (status.NotOpened shard fault) never first now e = e
 
-    pub opened_complete : (n : ℕ) → ¬ (Rose sink_before sink_after)
-        → CallsFirst (λ first now. IsTrue tells → ¬ (disk.Rose (faults first) (faults now)) → IsOk (opens_to (view first).seen 1 0 n) → (s ≡ status.Ok) ⊎ (s ≡ status.NoMemory)) disks backs
-    opened_complete n quiet = calls_as (λ first now. EndsBy tells view faults s slots phases held grown sink_before sink_after first now)
-        (λ first now. IsTrue tells → ¬ (disk.Rose (faults first) (faults now)) → IsOk (opens_to (view first).seen 1 0 n) → (s ≡ status.Ok) ⊎ (s ≡ status.NoMemory)) disks backs
-        (λ first now e told still opens. ends_well s first now quiet still e) calls
+  pub opened_calls : CallsNoDisk run.status → ⊥
+  opened_calls never = calls_any (Ended run.status) ⊥ run.disks run.backs (called run.status never) o.calls
 
-  -- files from which a history begins are not refused
-  pub opened_refused : (first : D) (others : List D) (start : Start) (n : ℕ) (fault : ImageFault) → disks ≡ first ∷ others → BeginsFrom 1 0 slots tells (view first) (faults first) start → slots_of_run words ≡ Some n
-      → CallsFirst (λ first now. EndsBy tells view faults s slots phases held grown sink_before sink_after first now) disks backs
-      → CallsFirst (λ first now. IsTrue tells → ¬ (disk.Rose (faults first) (faults now)) → opens_to (view first).seen 1 0 n ≡ Err fault → (s ≡ status.NotOpened 0 fault) ⊎ (s ≡ status.NoMemory)) disks backs
-  opened_refused first others start n fault are begins named calls =
-      calls_known (λ one now. EndsBy tells view faults s slots phases held grown sink_before sink_after one now)
-      (λ one now. IsTrue tells → ¬ (disk.Rose (faults one) (faults now)) → opens_to (view one).seen 1 0 n ≡ Err fault → (s ≡ status.NotOpened 0 fault) ⊎ (s ≡ status.NoMemory)) first others disks backs are
-      (λ now e told still refuses.
-      let found = begins.found told in
-      let same : slots ≡ n = let both : Some slots ≡ Some n = sym asks.asked ∙ named in cc in
-      let wrong : Ok found.map ≡ Err fault = sym found.opens ∙ (ap (λ (k : ℕ). opens_to (view first).seen 1 0 k) same ∙ refuses) in
-      absurd (cc)) calls
+  ends_well : (t : Status) (first now : D) → ¬ (Rose run.faults_before run.faults_after) → ¬ (disk.Rose (run.disk.faults first) (run.disk.faults now)) → Ended t first now
+      → (t ≡ status.Ok) ⊎ (t ≡ status.NoMemory)
+  ends_well status.Ok first now quiet still e = inl refl
+  ends_well (status.DeviceFault shard) first now quiet still e = absurd (still e.1)
+  ends_well status.WriteFault first now quiet still e = absurd (quiet e.1)
+  ends_well status.NoMemory first now quiet still e = inr refl
+  ends_well status.Words first now quiet still e = absurd e
+  ends_well status.ReadFault first now quiet still e = absurd e
+  ends_well status.TooLong first now quiet still e = absurd e
+  ends_well (status.BadLine line) first now quiet still e = absurd e
+  ends_well (status.NotOpened shard fault) first now quiet still e = absurd e
+
+  pub opened_complete : (n : ℕ) → ¬ (Rose run.faults_before run.faults_after)
+      → CallsFirst (λ first now. IsTrue run.disk.tells → ¬ (disk.Rose (run.disk.faults first) (run.disk.faults now)) → IsOk (opens_to (run.disk.view first).seen 1 0 n) → EndsAs status.Ok run.status) run.disks run.backs
+  opened_complete n quiet = calls_as (Ended run.status) _ run.disks run.backs (λ first now e told still opens. ends_well run.status first now quiet still e) o.calls
+
+-- files from which a history begins are not refused
+pub opened_refused : {D : Type 0} {run : Ran D} {slots : ℕ} (o : WasOpened run slots) (first : D) (others : List D) (start : Start) (n : ℕ) (fault : ImageFault) → run.disks ≡ first ∷ others
+    → BeginsFrom 1 0 slots run.disk.tells (run.disk.view first) (run.disk.faults first) start → slots_of_run run.words ≡ Some n → CallsFirst (FaultShows run.disk n fault run.status) run.disks run.backs
+opened_refused {run = run} {slots = slots} o first others start n fault are begins named =
+    calls_known (Ending run slots o.phases run.status) (FaultShows run.disk n fault run.status) first others run.disks run.backs are
+    (λ now e told still refuses.
+    let found = begins.found told in
+    let same : slots ≡ n = let both : Some slots ≡ Some n = sym o.asked.asked ∙ named in cc in
+    let wrong : Ok found.map ≡ Err fault = sym found.opens ∙ (ap (λ (k : ℕ). opens_to (run.disk.view first).seen 1 0 k) same ∙ refuses) in
+    absurd (cc)) o.calls
 
 -- ---- a store that was not opened
 
 -- the first disk was refused, the others come back as they were, and the status says why
-pub record IsNotOpened {D : Type 0} (tells : Bool) (view : D → DiskView) (faults : D → ℕ) (slots : ℕ) (disks backs : List D) (s : Status) : Type 0 where
+pub record IsNotOpened {D : Type 0} (run : Ran D) : Type 0 where
+  pub slots : ℕ
+  pub phases : List (List (List Line))
+  pub asked : IsAsked run.words run.left_before run.left_after slots phases
   pub first : D
   pub back : D
   pub others : List D
   pub fault : OpenFault
-  pub are : disks ≡ first ∷ others
-  pub come : backs ≡ back ∷ others
-  pub status_is : s ≡ unopened_status 0 fault
-  pub was : WasRefused 1 0 slots tells view faults fault first back
+  pub are : run.disks ≡ first ∷ others
+  pub come : run.backs ≡ back ∷ others
+  pub status_is : run.status ≡ unopened_status 0 fault
+  pub was : WasRefused 1 0 slots run.disk.tells run.disk.view run.disk.faults fault first back
 
-pub is_not_opened : {D : Type 0} (tells : Bool) (view : D → DiskView) (faults : D → ℕ) (slots : ℕ) (first : D) (others disks backs : List D) (shard : ℕ) (fault : OpenFault) (s : Status)
-    → disks ≡ first ∷ others → (shard ≡ 0) × (back : D) × (backs ≡ back ∷ others) × WasRefused 1 0 slots tells view faults fault first back → s ≡ unopened_status shard fault
-    → IsNotOpened tells view faults slots disks backs s
-is_not_opened tells view faults slots first others disks backs shard fault s are refused is = record {
-  first = first;
-  back = refused.1;
-  others = others;
-  fault = fault;
-  are = are;
-  come = refused.2;
-  status_is = is ∙ ap (λ (n : ℕ). unopened_status n fault) refused.0;
-  was = refused.3;
-}
-
-pub unopened_first : {D : Type 0} (tells : Bool) (view : D → DiskView) (faults : D → ℕ) (slots : ℕ) (disks : List D) (e : NotStored D) (outcome : Outcome D) (f : HasFirst disks)
-    → ((first : D) (others : List D) → disks ≡ first ∷ others → (e.shard ≡ 0) × (back : D) × (e.disks.items ≡ back ∷ others) × WasRefused 1 0 slots tells view faults e.fault first back)
-    → outcome.status ≡ unopened_status e.shard e.fault → outcome.disks ≡ e.disks → IsNotOpened tells view faults slots disks outcome.disks.items outcome.status
-unopened_first tells view faults slots disks e outcome f refused is same =
-    is_not_opened tells view faults slots f.first f.others disks outcome.disks.items e.shard e.fault outcome.status f.are
-    (let r = refused f.first f.others f.are in (r.0, r.1, ap (λ ds. ds.items) same ∙ r.2, r.3)) is
+pub not_opened : {D : Type 0} (run : Ran D) (slots : ℕ) (phases : List (List (List Line))) → slots_of_run run.words ≡ Some slots → IsRead run.left_before run.left_after phases → (e : NotStored D) (f : HasFirst run.disks)
+    → ((first : D) (others : List D) → run.disks ≡ first ∷ others → (e.shard ≡ 0) × (back : D) × (e.disks.items ≡ back ∷ others) × WasRefused 1 0 slots run.disk.tells run.disk.view run.disk.faults e.fault first back)
+    → run.status ≡ unopened_status e.shard e.fault → run.backs ≡ e.disks.items → IsNotOpened run
+not_opened run slots phases named read e f refused is same =
+    let r = refused f.first f.others f.are in record {
+      slots = slots;
+      phases = phases;
+      asked = asked_for run.words run.left_before run.left_after slots phases named read;
+      first = f.first;
+      back = r.1;
+      others = f.others;
+      fault = e.fault;
+      are = f.are;
+      come = same ∙ r.2;
+      status_is = is ∙ ap (λ (n : ℕ). unopened_status n e.fault) r.0;
+      was = r.3;
+    }
 
 no_quiet : (fault : OpenFault) (s : Status) → unopened_status 0 fault ≡ s → CallsNoDisk s → ⊥
 no_quiet (refused.Image fault) s is never = subst CallsNoDisk (sym is) never
@@ -188,81 +201,72 @@ no_write (refused.Image fault) is = absurd (cc)
 no_write refused.Disk is = absurd (cc)
 no_write refused.NoMemory is = absurd (cc)
 
-module _ {D : Type 0} (tells : Bool) (view : D → DiskView) (faults : D → ℕ) (words : List (List ℕ)) (before after held grown : Option (List ℕ)) (sink_before sink_after : ℕ)
-    (slots : ℕ) (phases : List (List (List Line))) (asks : IsAsked words before after slots phases) (disks backs : List D) (s : Status) (u : IsNotOpened tells view faults slots disks backs s) where
-  one_of : (fault : OpenFault) → WasRefused 1 0 slots tells view faults fault u.first u.back → IsUnopened tells view faults words before after fault u.first u.back
-  one_of fault was = record { slots = slots; phases = phases; asked = asks; refused = was }
+module _ {D : Type 0} {run : Ran D} (u : IsNotOpened run) where
+  one_of : (fault : OpenFault) → WasRefused 1 0 u.slots run.disk.tells run.disk.view run.disk.faults fault u.first u.back → IsUnopened run fault u.first u.back
+  one_of fault was = record { slots = u.slots; phases = u.phases; asked = u.asked; refused = was }
 
-  slots_same : (n : ℕ) → slots_of_run words ≡ Some n → slots ≡ n
-  slots_same n named = let both : Some slots ≡ Some n = sym asks.asked ∙ named in cc
+  slots_same : (n : ℕ) → slots_of_run run.words ≡ Some n → u.slots ≡ n
+  slots_same n named = let both : Some u.slots ≡ Some n = sym u.asked.asked ∙ named in cc
 
-  pub unopened_other : CallsNoDisk s → ⊥
-  unopened_other never = no_quiet u.fault s (sym u.status_is) never
+  pub unopened_other : CallsNoDisk run.status → ⊥
+  unopened_other never = no_quiet u.fault run.status (sym u.status_is) never
 
-  pub unopened_ok : s ≡ status.Ok → ⊥
+  pub unopened_ok : run.status ≡ status.Ok → ⊥
   unopened_ok is = no_ok u.fault (sym u.status_is ∙ is)
 
-  pub unopened_write : s ≡ status.WriteFault → ⊥
+  pub unopened_write : run.status ≡ status.WriteFault → ⊥
   unopened_write is = no_write u.fault (sym u.status_is ∙ is)
 
-  pub unopened_device : (shard : ℕ) → s ≡ status.DeviceFault shard → Keeps held grown → sink_after ≡ sink_before
-      → CallsFirst (λ first now. (shard ≡ 0) × disk.Rose (faults first) (faults now) × ((IsUnopened tells view faults words before after refused.Disk first now × Keeps held grown × (sink_after ≡ sink_before))
-      ⊎ Stops tells view faults words before after held grown sink_before sink_after first now)) disks backs
-  unopened_device shard is keeps quiet =
-      calls_first (λ first now. (shard ≡ 0) × disk.Rose (faults first) (faults now) × ((IsUnopened tells view faults words before after refused.Disk first now × Keeps held grown × (sink_after ≡ sink_before))
-      ⊎ Stops tells view faults words before after held grown sink_before sink_after first now)) u.first u.back u.others disks backs u.are u.come (at u.fault u.was (sym u.status_is ∙ is)) where
-        at : (fault : OpenFault) → WasRefused 1 0 slots tells view faults fault u.first u.back → unopened_status 0 fault ≡ status.DeviceFault shard
-            → (shard ≡ 0) × disk.Rose (faults u.first) (faults u.back) × ((IsUnopened tells view faults words before after refused.Disk u.first u.back × Keeps held grown × (sink_after ≡ sink_before))
-            ⊎ Stops tells view faults words before after held grown sink_before sink_after u.first u.back)
+  pub unopened_device : (shard : ℕ) → Keeps run.held_before run.held_after → run.faults_after ≡ run.faults_before → MeetsDeviceFault shard run
+  unopened_device shard keeps quiet is =
+      calls_first _ u.first u.back u.others run.disks run.backs u.are u.come (at u.fault u.was (sym u.status_is ∙ is)) where
+        at : (fault : OpenFault) → WasRefused 1 0 u.slots run.disk.tells run.disk.view run.disk.faults fault u.first u.back → unopened_status 0 fault ≡ status.DeviceFault shard
+            → (shard ≡ 0) × disk.Rose (run.disk.faults u.first) (run.disk.faults u.back) × ((IsUnopened run refused.Disk u.first u.back × Keeps run.held_before run.held_after × (run.faults_after ≡ run.faults_before))
+            ⊎ Stops run u.first u.back)
         at (refused.Image fault) was same = absurd (cc)
         at refused.Disk was same = ((let own : 0 ≡ shard = cc in sym own), was.cause, inl (one_of refused.Disk was, keeps, quiet))
         at refused.NoMemory was same = absurd (cc)
 
-  pub unopened_image : (shard : ℕ) (fault : ImageFault) → s ≡ status.NotOpened shard fault
-      → CallsFirst (λ first now. (shard ≡ 0) × IsUnopened tells view faults words before after (refused.Image fault) first now) disks backs
+  pub unopened_image : (shard : ℕ) → MeetsImageFault shard run
   unopened_image shard fault is =
-      calls_first (λ first now. (shard ≡ 0) × IsUnopened tells view faults words before after (refused.Image fault) first now) u.first u.back u.others disks backs u.are u.come (at u.fault u.was (sym u.status_is ∙ is)) where
-        at : (found : OpenFault) → WasRefused 1 0 slots tells view faults found u.first u.back → unopened_status 0 found ≡ status.NotOpened shard fault
-            → (shard ≡ 0) × IsUnopened tells view faults words before after (refused.Image fault) u.first u.back
+      calls_first _ u.first u.back u.others run.disks run.backs u.are u.come (at u.fault u.was (sym u.status_is ∙ is)) where
+        at : (found : OpenFault) → WasRefused 1 0 u.slots run.disk.tells run.disk.view run.disk.faults found u.first u.back → unopened_status 0 found ≡ status.NotOpened shard fault
+            → (shard ≡ 0) × IsUnopened run (refused.Image fault) u.first u.back
         at (refused.Image image) was same =
             let own : 0 ≡ shard = cc in let one : image ≡ fault = cc in
-            (sym own, subst (λ (f : ImageFault). IsUnopened tells view faults words before after (refused.Image f) u.first u.back) one (one_of (refused.Image image) was))
+            (sym own, subst (λ (f : ImageFault). IsUnopened run (refused.Image f) u.first u.back) one (one_of (refused.Image image) was))
         at refused.Disk was same = absurd (cc)
         at refused.NoMemory was same = absurd (cc)
 
-  pub unopened_memory : s ≡ status.NoMemory → Keeps held grown
-      → CallsFirst (λ first now. (Keeps held grown × ((now ≡ first) ⊎ IsUnopened tells view faults words before after refused.NoMemory first now)) ⊎ RunsShort tells view faults words before after held grown first now) disks backs
-  unopened_memory is keeps =
-      calls_first (λ first now. (Keeps held grown × ((now ≡ first) ⊎ IsUnopened tells view faults words before after refused.NoMemory first now)) ⊎ RunsShort tells view faults words before after held grown first now)
-      u.first u.back u.others disks backs u.are u.come (inl (keeps, inr (at u.fault u.was (sym u.status_is ∙ is)))) where
-        at : (found : OpenFault) → WasRefused 1 0 slots tells view faults found u.first u.back → unopened_status 0 found ≡ status.NoMemory → IsUnopened tells view faults words before after refused.NoMemory u.first u.back
+  pub unopened_memory : Keeps run.held_before run.held_after → run.faults_after ≡ run.faults_before → run.status ≡ status.NoMemory → WantedMemory run
+  unopened_memory keeps quiet is =
+      (quiet, calls_first _ u.first u.back u.others run.disks run.backs u.are u.come (inl (keeps, inr (at u.fault u.was (sym u.status_is ∙ is))))) where
+        at : (found : OpenFault) → WasRefused 1 0 u.slots run.disk.tells run.disk.view run.disk.faults found u.first u.back → unopened_status 0 found ≡ status.NoMemory → IsUnopened run refused.NoMemory u.first u.back
         at (refused.Image image) was same = absurd (cc)
         at refused.Disk was same = absurd (cc)
         at refused.NoMemory was same = one_of refused.NoMemory was
 
-  pub unopened_refused : (n : ℕ) (fault : ImageFault) → slots_of_run words ≡ Some n
-      → CallsFirst (λ first now. IsTrue tells → ¬ (disk.Rose (faults first) (faults now)) → opens_to (view first).seen 1 0 n ≡ Err fault → (s ≡ status.NotOpened 0 fault) ⊎ (s ≡ status.NoMemory)) disks backs
+  pub unopened_refused : (n : ℕ) (fault : ImageFault) → slots_of_run run.words ≡ Some n → CallsFirst (FaultShows run.disk n fault run.status) run.disks run.backs
   unopened_refused n fault named =
-      calls_first (λ first now. IsTrue tells → ¬ (disk.Rose (faults first) (faults now)) → opens_to (view first).seen 1 0 n ≡ Err fault → (s ≡ status.NotOpened 0 fault) ⊎ (s ≡ status.NoMemory))
-      u.first u.back u.others disks backs u.are u.come (at u.fault u.was u.status_is) where
-        at : (found : OpenFault) → WasRefused 1 0 slots tells view faults found u.first u.back → s ≡ unopened_status 0 found
-            → IsTrue tells → ¬ (disk.Rose (faults u.first) (faults u.back)) → opens_to (view u.first).seen 1 0 n ≡ Err fault → (s ≡ status.NotOpened 0 fault) ⊎ (s ≡ status.NoMemory)
+      calls_first (FaultShows run.disk n fault run.status) u.first u.back u.others run.disks run.backs u.are u.come (at u.fault u.was u.status_is) where
+        at : (found : OpenFault) → WasRefused 1 0 u.slots run.disk.tells run.disk.view run.disk.faults found u.first u.back → run.status ≡ unopened_status 0 found
+            → IsTrue run.disk.tells → ¬ (disk.Rose (run.disk.faults u.first) (run.disk.faults u.back)) → opens_to (run.disk.view u.first).seen 1 0 n ≡ Err fault → (run.status ≡ status.NotOpened 0 fault) ⊎ (run.status ≡ status.NoMemory)
         at (refused.Image image) was is told still refuses =
-            let both : Err image ≡ Err fault = sym (was.err told) ∙ (ap (λ (k : ℕ). opens_to (view u.first).seen 1 0 k) (slots_same n named) ∙ refuses) in
+            let both : Err image ≡ Err fault = sym (was.err told) ∙ (ap (λ (k : ℕ). opens_to (run.disk.view u.first).seen 1 0 k) (slots_same n named) ∙ refuses) in
             let one : image ≡ fault = cc in
             inl (is ∙ ap (status.NotOpened 0) one)
         at refused.Disk was is told still refuses = absurd (still was.cause)
         at refused.NoMemory was is told still refuses = inr is
 
-  pub unopened_complete : (n : ℕ) → slots_of_run words ≡ Some n
-      → CallsFirst (λ first now. IsTrue tells → ¬ (disk.Rose (faults first) (faults now)) → IsOk (opens_to (view first).seen 1 0 n) → (s ≡ status.Ok) ⊎ (s ≡ status.NoMemory)) disks backs
+  pub unopened_complete : (n : ℕ) → slots_of_run run.words ≡ Some n
+      → CallsFirst (λ first now. IsTrue run.disk.tells → ¬ (disk.Rose (run.disk.faults first) (run.disk.faults now)) → IsOk (opens_to (run.disk.view first).seen 1 0 n) → (run.status ≡ status.Ok) ⊎ (run.status ≡ status.NoMemory)) run.disks run.backs
   unopened_complete n named =
-      calls_first (λ first now. IsTrue tells → ¬ (disk.Rose (faults first) (faults now)) → IsOk (opens_to (view first).seen 1 0 n) → (s ≡ status.Ok) ⊎ (s ≡ status.NoMemory))
-      u.first u.back u.others disks backs u.are u.come (at u.fault u.was u.status_is) where
-        at : (found : OpenFault) → WasRefused 1 0 slots tells view faults found u.first u.back → s ≡ unopened_status 0 found
-            → IsTrue tells → ¬ (disk.Rose (faults u.first) (faults u.back)) → IsOk (opens_to (view u.first).seen 1 0 n) → (s ≡ status.Ok) ⊎ (s ≡ status.NoMemory)
+      calls_first (λ first now. IsTrue run.disk.tells → ¬ (disk.Rose (run.disk.faults first) (run.disk.faults now)) → IsOk (opens_to (run.disk.view first).seen 1 0 n) → (run.status ≡ status.Ok) ⊎ (run.status ≡ status.NoMemory))
+      u.first u.back u.others run.disks run.backs u.are u.come (at u.fault u.was u.status_is) where
+        at : (found : OpenFault) → WasRefused 1 0 u.slots run.disk.tells run.disk.view run.disk.faults found u.first u.back → run.status ≡ unopened_status 0 found
+            → IsTrue run.disk.tells → ¬ (disk.Rose (run.disk.faults u.first) (run.disk.faults u.back)) → IsOk (opens_to (run.disk.view u.first).seen 1 0 n) → (run.status ≡ status.Ok) ⊎ (run.status ≡ status.NoMemory)
         at (refused.Image image) was is told still opens =
-            let refuses : opens_to (view u.first).seen 1 0 n ≡ Err image = ap (λ (k : ℕ). opens_to (view u.first).seen 1 0 k) (sym (slots_same n named)) ∙ was.err told in
+            let refuses : opens_to (run.disk.view u.first).seen 1 0 n ≡ Err image = ap (λ (k : ℕ). opens_to (run.disk.view u.first).seen 1 0 k) (sym (slots_same n named)) ∙ was.err told in
             absurd (false≢true (subst IsOk refuses opens))
         at refused.Disk was is told still opens = absurd (still was.cause)
         at refused.NoMemory was is told still opens = inr is

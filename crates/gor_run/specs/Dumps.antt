@@ -1,10 +1,14 @@
 -- What a dump writes, and of which disk.
-use Rattle.std.specs.Prelude.{◌≡◌, ℕ, zero, suc, List, [], ◌∷◌, ◌++◌, flat_map, Bool, IsTrue, Option, Ok, Err, ⊤}
+use Rattle.std.specs.Prelude.{◌≡◌, ◌⊎◌, ℕ, zero, suc, List, [], ◌∷◌, ◌++◌, flat_map, Bool, true, IsTrue, IsOk, Option, Ok, Err, String, ⊤}
 use Rattle.std.specs.List.Sorted.{IsPermutation, IsSortedByKey}
 use Rattle.std.specs.Ordering.{nat_cmp}
 use Rattle.std.specs.Cmp.Lexicographic.{slice_cmp}
 use Rattle.std.specs.Io.KnownBytes.{Appends}
 use Rattle.gor_disk.specs.Disk.{Contents}
+use Rattle.gor_disk.specs.Disk as disk
+use Rattle.gor_disk.specs.declared.disk.Disk as disk_ghosts
+use Rattle.gor_outside.specs.Causes.{Rose}
+use Rattle.gor_outside.specs.declared.sink.Sink as sink_ghosts
 use Rattle.gor_image.specs.declared.fault.ImageFault.{ImageFault}
 use Rattle.gor_image.specs.Holding.{start_of}
 use Rattle.gor_image.specs.Images.{opens_to}
@@ -14,7 +18,7 @@ use Rattle.gor_model.specs.declared.start.Row.{Row}
 use Rattle.gor_model.specs.declared.start.Start.{Start}
 use Rattle.gor_text.specs.Dumps.{floor_line, series_line}
 use Rattle.gor_run.specs.Outputs.{AppendsPart}
-use Rattle.gor_run.specs.Words.{most_slots}
+use Rattle.gor_run.specs.Words.{asks_dump, most_slots, words_of}
 use Rattle.gor_run.specs.declared.status.Status.{Status}
 use Rattle.gor_run.specs.declared.status.Status.TheVariants as status
 
@@ -87,8 +91,45 @@ abbrev pub IsOfDisk : Status → Type 0
 IsOfDisk status.Words = ⊥
 IsOfDisk other = IsOfDump other
 
--- what a disk tells is refused so as that of shard 0, and no fault of the disk rose
-pub record IsRefused (tells : Bool) (image : Contents) (before now shard : ℕ) (fault : ImageFault) : Type 0 where
-  pub first : shard ≡ 0
-  pub meets : IsTrue tells → opens_to image 1 0 most_slots ≡ Err fault
-  pub quiet : now ≡ before
+-- it ended so, or memory was wanting
+abbrev pub EndsAs : Status → Status → Type 0
+EndsAs this ended = (ended ≡ this) ⊎ (ended ≡ status.NoMemory)
+
+-- ---- a dump by its status
+
+-- the words are those of a dump
+abbrev pub AsksDump : {Z : Type 0} → List (String Z) → Type 0
+AsksDump words = asks_dump (words_of words) ≡ true
+
+module _ {D : Type 0} (of_disk : disk_ghosts.Ghosts D) where
+  -- what a disk tells is refused so as that of shard 0, and no fault of the disk rose
+  pub record IsRefused (shard : ℕ) (fault : ImageFault) (old now : D) : Type 0 where
+    pub first : shard ≡ 0
+    pub meets : IsTrue of_disk.tells → opens_to (of_disk.view old).seen 1 0 most_slots ≡ Err fault
+    pub quiet : of_disk.faults now ≡ of_disk.faults old
+
+  -- the disk failed, as that of shard 0
+  abbrev pub HasFailed : (shard : ℕ) (old now : D) → Type 0
+  HasFailed shard old now = (shard ≡ 0) × disk.Rose (of_disk.faults old) (of_disk.faults now)
+
+  -- where a disk tells its files, reading them meets this fault and the disk did not fail, the call ends so
+  abbrev pub FaultShows : (slots : ℕ) (fault : ImageFault) (ended : Status) (old now : D) → Type 0
+  FaultShows slots fault ended old now = IsTrue of_disk.tells → ¬ (disk.Rose (of_disk.faults old) (of_disk.faults now))
+      → opens_to (of_disk.view old).seen 1 0 slots ≡ Err fault → EndsAs (status.NotOpened 0 fault) ended
+
+  -- and that for each fault
+  abbrev pub EachFaultShows : (ended : Status) (old now : D) → Type 0
+  EachFaultShows ended old now = (fault : ImageFault) → FaultShows most_slots fault ended old now
+
+  module _ {K : Type 0} (of_sink : sink_ghosts.Ghosts K) (sink grown : K) where
+    -- the sink grew by the dump of the disk; by a front of it
+    abbrev pub WroteDump : (old now : D) → Type 0
+    WroteDump old now = Dumps of_disk.tells (of_disk.view old).seen (of_sink.held sink) (of_sink.held grown)
+
+    abbrev pub WroteDumpInPart : (old now : D) → Type 0
+    WroteDumpInPart old now = DumpsInPart of_disk.tells (of_disk.view old).seen (of_sink.held sink) (of_sink.held grown)
+
+    -- where a disk tells its files, they open, and neither disk nor sink failed, the dump ends well
+    abbrev pub DumpCompletes : (ended : Status) (old now : D) → Type 0
+    DumpCompletes ended old now = IsTrue of_disk.tells → ¬ (disk.Rose (of_disk.faults old) (of_disk.faults now)) → ¬ (Rose (of_sink.faults sink) (of_sink.faults grown))
+        → IsOk (opens_to (of_disk.view old).seen 1 0 most_slots) → EndsAs status.Ok ended

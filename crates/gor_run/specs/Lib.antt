@@ -6,3 +6,4 @@ pub mod Runs
 pub mod Serving
 pub mod Statuses
 pub mod Dumps
+pub mod Ends

@@ -1,8 +1,12 @@
 -- What a run reads, what it writes, and what it leaves on its disks.
-use Rattle.std.specs.Prelude.{◌≡◌, ◌⊎◌, ℕ, ◌<◌, ◌≤◌, List, [], ◌∷◌, ◌++◌, length, Option, Some, None, Bool, IsTrue, ⊤}
+use Rattle.std.specs.Prelude.{◌≡◌, ◌⊎◌, ℕ, ◌<◌, ◌≤◌, List, [], ◌∷◌, ◌++◌, length, Option, Some, None, Bool, IsTrue, String, Vec, ⊤}
+use Rattle.std.specs.declared.alloc.Global.{Global}
 use Rattle.std.specs.List.{AllByRecursion, list_all}
 use Rattle.std.specs.Io.KnownBytes.{Appends}
 use Rattle.gor_disk.specs.Disk.{DiskView}
+use Rattle.gor_disk.specs.declared.disk.Disk as disk_ghosts
+use Rattle.gor_outside.specs.declared.sink.Sink as sink_ghosts
+use Rattle.gor_outside.specs.declared.source.Source as source_ghosts
 use Rattle.gor_finish.specs.Made.{Numbered}
 use Rattle.gor_outside.specs.Causes.{Rose}
 use Rattle.gor_model.specs.declared.start.Start.{Start}
@@ -24,9 +28,11 @@ use Rattle.gor_store.specs.Shards.{BeginsFrom}
 use Rattle.gor_store.specs.Stores.{WasRefused}
 use Rattle.gor_store.specs.Works.{AreOfLane}
 use Rattle.gor_run.specs.Inputs.{most_input, IsWhole}
-use Rattle.gor_run.specs.Words.{slots_of_run}
+use Rattle.gor_run.specs.Words.{slots_of_run, words_of}
 use Rattle.gor_run.specs.Outputs.{AppendsUntil}
 use Rattle.gor_run.specs.TakenLines.{is_taken_item}
+use Rattle.gor_run.specs.declared.outcome.Outcome.{Outcome}
+use Rattle.gor_run.specs.declared.status.Status.{Status}
 
 -- ---- what was asked for
 
@@ -126,47 +132,80 @@ module _ {D : Type 0} (tells : Bool) (view : D → DiskView) (faults : D → ℕ
     pub besides : AllByRecursion (λ e. (e.lane < 8) ⊎ IsOfLastFlush e) part.told.later
     pub appended : Appends held written text
 
-  -- ---- the same of a run, whose phases the source gave
+-- ---- a whole run
 
-  pub record Answers (words : List (List ℕ)) (before after held written : Option (List ℕ)) (disk now : D) : Type 0 where
+-- What a run was given and what it left: its words; what the source had left, what the sink held, and how often the sink had
+-- failed, before and after; what a disk tells; the disks, as they were handed in and as they came back; and the status.
+pub record Ran (D : Type 0) : Type 1 where
+  pub words : List (List ℕ)
+  pub left_before : Option (List ℕ)
+  pub left_after : Option (List ℕ)
+  pub held_before : Option (List ℕ)
+  pub held_after : Option (List ℕ)
+  pub faults_before : ℕ
+  pub faults_after : ℕ
+  pub disk : disk_ghosts.Ghosts D
+  pub disks : List D
+  pub backs : List D
+  pub status : Status
+
+-- that of a call of `run`, whose source and sink were `source` and `sink`, and are `drained` and `grown` at its end
+abbrev pub run_of : {S K D Z : Type 0} → source_ghosts.Ghosts S → sink_ghosts.Ghosts K → disk_ghosts.Ghosts D → List (String Z) → (source drained : S) → (sink grown : K) → Vec D Global → Outcome D → Ran D
+run_of of_source of_sink of_disk words source drained sink grown disks outcome = record {
+  words = words_of words;
+  left_before = of_source.left source;
+  left_after = of_source.left drained;
+  held_before = of_sink.held sink;
+  held_after = of_sink.held grown;
+  faults_before = of_sink.faults sink;
+  faults_after = of_sink.faults grown;
+  disk = of_disk;
+  disks = disks.items;
+  backs = outcome.disks.items;
+  status = outcome.status;
+}
+
+-- the phases of what the source gave, and what was left of them on the first disk and in the sink
+module _ {D : Type 0} (run : Ran D) where
+  pub record Answers (disk now : D) : Type 0 where
     pub slots : ℕ
     pub phases : List (List (List Line))
-    pub asked : IsAsked words before after slots phases
-    pub ends : EndsWell slots phases held written disk now
+    pub asked : IsAsked run.words run.left_before run.left_after slots phases
+    pub ends : EndsWell run.disk.tells run.disk.view run.disk.faults slots phases run.held_before run.held_after disk now
 
-  pub record Stops (words : List (List ℕ)) (before after held written : Option (List ℕ)) (faults_before faults_after : ℕ) (disk now : D) : Type 0 where
+  pub record Stops (disk now : D) : Type 0 where
     pub slots : ℕ
     pub phases : List (List (List Line))
-    pub asked : IsAsked words before after slots phases
-    pub ends : EndsStopped slots phases held written faults_before faults_after disk now
+    pub asked : IsAsked run.words run.left_before run.left_after slots phases
+    pub ends : EndsStopped run.disk.tells run.disk.view run.disk.faults slots phases run.held_before run.held_after run.faults_before run.faults_after disk now
 
-  pub record BreaksOff (words : List (List ℕ)) (before after held written : Option (List ℕ)) (disk now : D) : Type 0 where
+  pub record BreaksOff (disk now : D) : Type 0 where
     pub slots : ℕ
     pub phases : List (List (List Line))
-    pub asked : IsAsked words before after slots phases
-    pub ends : EndsUnwritten slots phases held written disk now
+    pub asked : IsAsked run.words run.left_before run.left_after slots phases
+    pub ends : EndsUnwritten run.disk.tells run.disk.view run.disk.faults slots phases run.held_before run.held_after disk now
 
-  pub record RunsShort (words : List (List ℕ)) (before after held written : Option (List ℕ)) (disk now : D) : Type 0 where
+  pub record RunsShort (disk now : D) : Type 0 where
     pub slots : ℕ
     pub phases : List (List (List Line))
-    pub asked : IsAsked words before after slots phases
-    pub ends : EndsInPart slots phases held written disk now
+    pub asked : IsAsked run.words run.left_before run.left_after slots phases
+    pub ends : EndsInPart run.disk.tells run.disk.view run.disk.faults slots phases run.held_before run.held_after disk now
 
   -- the disk was not opened for this fault, and nothing was written
-  pub record IsUnopened (words : List (List ℕ)) (before after : Option (List ℕ)) (fault : OpenFault) (disk now : D) : Type 0 where
+  pub record IsUnopened (fault : OpenFault) (disk now : D) : Type 0 where
     pub slots : ℕ
     pub phases : List (List (List Line))
-    pub asked : IsAsked words before after slots phases
-    pub refused : WasRefused 1 0 slots tells view faults fault disk now
+    pub asked : IsAsked run.words run.left_before run.left_after slots phases
+    pub refused : WasRefused 1 0 slots run.disk.tells run.disk.view run.disk.faults fault disk now
 
   -- Where one lane alone had lines, what was written is the only text that answers them, from what the disk recovered to, with
   -- no shard stopped.
-  pub record WritesOneText (words : List (List ℕ)) (before after held written : Option (List ℕ)) (disk now : D) : Type 0 where
+  pub record WritesOneText (disk now : D) : Type 0 where
     pub slots : ℕ
     pub phases : List (List (List Line))
-    pub asked : IsAsked words before after slots phases
+    pub asked : IsAsked run.words run.left_before run.left_after slots phases
     pub start : Start
-    pub begins : BeginsFrom 1 0 slots tells (view disk) (faults disk) start
+    pub begins : BeginsFrom 1 0 slots run.disk.tells (run.disk.view disk) (run.disk.faults disk) start
     pub text : List ℕ
-    pub appended : Appends held written text
+    pub appended : Appends run.held_before run.held_after text
     pub only : IsOnlyText start phases text

@@ -1,13 +1,11 @@
 //! The dump: what the files of a shard hold, as text.
-ghost use Rattle.std.specs.Prelude.{◌≡◌, ◌≤◌, ◌⊎◌, ℕ, length, true, false, IsTrue, IsOk, Err};
+ghost use Rattle.std.specs.Prelude.{◌≡◌, ◌≤◌, ℕ, length, false, IsTrue};
 ghost use Rattle.std.specs.Io.KnownBytes.{Keeps};
-ghost use Rattle.gor_disk.specs.Disk.{Rose as DiskRose};
 ghost use Rattle.gor_image.specs.declared.fault.ImageFault.{ImageFault as Fault};
-ghost use Rattle.gor_image.specs.Images.{opens_to};
 ghost use Rattle.gor_image.specs.Openings.{OnlyRead};
 ghost use Rattle.gor_outside.specs.Causes.{Rose};
-ghost use Rattle.gor_run.specs.Dumps.{CallsFirst, Dumps, DumpsInPart, IsOfDisk, IsOfDump, IsRefused, WritesNoDump};
-ghost use Rattle.gor_run.specs.Words.{asks_dump, most_slots, words_of};
+ghost use Rattle.gor_run.specs.Dumps.{AsksDump, CallsFirst, DumpCompletes, EachFaultShows, HasFailed, IsOfDisk, IsOfDump, IsRefused, WritesNoDump, WroteDump, WroteDumpInPart};
+ghost use Rattle.gor_run.specs.Words.{asks_dump, words_of};
 
 use crate::dump_text::{ONLY_SHARD, dump_text};
 use crate::outcome::Outcome;
@@ -40,16 +38,16 @@ fn refusal(fault: OpenFault) -> Status
 
 /// Writes the dump of a disk, which is that of the only shard.
 fn dump_disk<K: Sink, D: Disk>(alloc: Global, sink: &mut K, disk: &mut D) -> Status
-    ensures answered { result ≡ Status.Ok → Dumps D.tells (D.view disk.old).seen (K.held sink.old) (K.held sink.new) }
-    ensures in_part { result ≡ Status.WriteFault → DumpsInPart D.tells (D.view disk.old).seen (K.held sink.old) (K.held sink.new) }
-    ensures not_opened { (shard : ℕ) (fault : Fault) → result ≡ Status.NotOpened shard fault → IsRefused D.tells (D.view disk.old).seen (D.faults disk.old) (D.faults disk.new) shard fault }
-    ensures device_fault { (shard : ℕ) → result ≡ Status.DeviceFault shard → (shard ≡ 0) × DiskRose (D.faults disk.old) (D.faults disk.new) }
+    ensures answered { result ≡ Status.Ok → WroteDump D.Disk K.Sink sink.old sink.new disk.old disk.new }
+    ensures in_part { result ≡ Status.WriteFault → WroteDumpInPart D.Disk K.Sink sink.old sink.new disk.old disk.new }
+    ensures not_opened { (shard : ℕ) (fault : Fault) → result ≡ Status.NotOpened shard fault → IsRefused D.Disk shard fault disk.old disk.new }
+    ensures device_fault { (shard : ℕ) → result ≡ Status.DeviceFault shard → HasFailed D.Disk shard disk.old disk.new }
     ensures write_fault { result ≡ Status.WriteFault → Rose (K.faults sink.old) (K.faults sink.new) }
     ensures quiet { WritesNoDump result → Keeps (K.held sink.old) (K.held sink.new) × (K.faults sink.new ≡ K.faults sink.old) }
     ensures statuses { IsOfDisk result }
     ensures only_read { IsTrue D.tells → OnlyRead (D.view disk.old) (D.view disk.new) }
-    ensures refused { (fault : Fault) → IsTrue D.tells → ¬ (DiskRose (D.faults disk.old) (D.faults disk.new)) → opens_to (D.view disk.old).seen 1 0 most_slots ≡ Err fault → (result ≡ Status.NotOpened 0 fault) ⊎ (result ≡ Status.NoMemory) }
-    ensures complete { IsTrue D.tells → ¬ (DiskRose (D.faults disk.old) (D.faults disk.new)) → ¬ (Rose (K.faults sink.old) (K.faults sink.new)) → IsOk (opens_to (D.view disk.old).seen 1 0 most_slots) → (result ≡ Status.Ok) ⊎ (result ≡ Status.NoMemory) }
+    ensures refused { EachFaultShows D.Disk result disk.old disk.new }
+    ensures complete { DumpCompletes D.Disk K.Sink sink.old sink.new result disk.old disk.new }
 {
     let recovered = match recover(alloc, disk, 1, ONLY_SHARD, DUMPED_SLOTS) {
         Ok(recovered) => recovered,
@@ -68,16 +66,16 @@ fn dump_disk<K: Sink, D: Disk>(alloc: Global, sink: &mut K, disk: &mut D) -> Sta
 fn dump_first<K: Sink, D: Disk>(alloc: Global, sink: &mut K, disks: &mut [D]) -> Status
     requires some { 1 ≤ length disks.old }
     ensures len { length disks.new ≡ length disks.old }
-    ensures answered { result ≡ Status.Ok → CallsFirst (λ disk now. Dumps D.tells (D.view disk).seen (K.held sink.old) (K.held sink.new)) disks.old disks.new }
-    ensures in_part { result ≡ Status.WriteFault → CallsFirst (λ disk now. DumpsInPart D.tells (D.view disk).seen (K.held sink.old) (K.held sink.new)) disks.old disks.new }
-    ensures not_opened { (shard : ℕ) (fault : Fault) → result ≡ Status.NotOpened shard fault → CallsFirst (λ disk now. IsRefused D.tells (D.view disk).seen (D.faults disk) (D.faults now) shard fault) disks.old disks.new }
-    ensures device_fault { (shard : ℕ) → result ≡ Status.DeviceFault shard → CallsFirst (λ disk now. (shard ≡ 0) × DiskRose (D.faults disk) (D.faults now)) disks.old disks.new }
+    ensures answered { result ≡ Status.Ok → CallsFirst (WroteDump D.Disk K.Sink sink.old sink.new) disks.old disks.new }
+    ensures in_part { result ≡ Status.WriteFault → CallsFirst (WroteDumpInPart D.Disk K.Sink sink.old sink.new) disks.old disks.new }
+    ensures not_opened { (shard : ℕ) (fault : Fault) → result ≡ Status.NotOpened shard fault → CallsFirst (IsRefused D.Disk shard fault) disks.old disks.new }
+    ensures device_fault { (shard : ℕ) → result ≡ Status.DeviceFault shard → CallsFirst (HasFailed D.Disk shard) disks.old disks.new }
     ensures write_fault { result ≡ Status.WriteFault → Rose (K.faults sink.old) (K.faults sink.new) }
     ensures quiet { WritesNoDump result → Keeps (K.held sink.old) (K.held sink.new) × (K.faults sink.new ≡ K.faults sink.old) }
     ensures statuses { IsOfDisk result }
     ensures only_read { CallsFirst (λ disk now. IsTrue D.tells → OnlyRead (D.view disk) (D.view now)) disks.old disks.new }
-    ensures refused { CallsFirst (λ disk now. (fault : Fault) → IsTrue D.tells → ¬ (DiskRose (D.faults disk) (D.faults now)) → opens_to (D.view disk).seen 1 0 most_slots ≡ Err fault → (result ≡ Status.NotOpened 0 fault) ⊎ (result ≡ Status.NoMemory)) disks.old disks.new }
-    ensures complete { CallsFirst (λ disk now. IsTrue D.tells → ¬ (DiskRose (D.faults disk) (D.faults now)) → ¬ (Rose (K.faults sink.old) (K.faults sink.new)) → IsOk (opens_to (D.view disk).seen 1 0 most_slots) → (result ≡ Status.Ok) ⊎ (result ≡ Status.NoMemory)) disks.old disks.new }
+    ensures refused { CallsFirst (EachFaultShows D.Disk result) disks.old disks.new }
+    ensures complete { CallsFirst (DumpCompletes D.Disk K.Sink sink.old sink.new result) disks.old disks.new }
 {
     match disks {
         [disk, ..] => dump_disk(alloc, sink, disk),
@@ -98,24 +96,24 @@ pub fn dump<R: AllocGlobal, K: Sink, D: Disk>(
     disks: Vec<D>,
 ) -> Outcome<D>
     requires sixteen { length disks.items ≡ 16 }
-    ensures answered { result.status ≡ Status.Ok → (asks_dump (words_of words.now) ≡ true) × CallsFirst (λ disk now. Dumps D.tells (D.view disk).seen (K.held sink.old) (K.held sink.new)) disks.items result.disks.items }
+    ensures answered { result.status ≡ Status.Ok → AsksDump words.now × CallsFirst (WroteDump D.Disk K.Sink sink.old sink.new) disks.items result.disks.items }
     ensures only_read { CallsFirst (λ disk now. IsTrue D.tells → OnlyRead (D.view disk) (D.view now)) disks.items result.disks.items }
 
     // The cause of every other status but want of memory.
     ensures statuses { IsOfDump result.status }
     ensures words { result.status ≡ Status.Words → (asks_dump (words_of words.now) ≡ false) × (result.disks.items ≡ disks.items) }
-    ensures not_opened { (shard : ℕ) (fault : Fault) → result.status ≡ Status.NotOpened shard fault → CallsFirst (λ disk now. IsRefused D.tells (D.view disk).seen (D.faults disk) (D.faults now) shard fault) disks.items result.disks.items }
-    ensures device_fault { (shard : ℕ) → result.status ≡ Status.DeviceFault shard → CallsFirst (λ disk now. (shard ≡ 0) × DiskRose (D.faults disk) (D.faults now)) disks.items result.disks.items }
+    ensures not_opened { (n : ℕ) (fault : Fault) → result.status ≡ Status.NotOpened n fault → CallsFirst (IsRefused D.Disk n fault) disks.items result.disks.items }
+    ensures device_fault { (shard : ℕ) → result.status ≡ Status.DeviceFault shard → CallsFirst (HasFailed D.Disk shard) disks.items result.disks.items }
     ensures write_fault { result.status ≡ Status.WriteFault → Rose (K.faults sink.old) (K.faults sink.new) }
-    ensures in_part { result.status ≡ Status.WriteFault → CallsFirst (λ disk now. DumpsInPart D.tells (D.view disk).seen (K.held sink.old) (K.held sink.new)) disks.items result.disks.items }
+    ensures in_part { result.status ≡ Status.WriteFault → CallsFirst (WroteDumpInPart D.Disk K.Sink sink.old sink.new) disks.items result.disks.items }
     ensures nothing_written { WritesNoDump result.status → Keeps (K.held sink.old) (K.held sink.new) × (K.faults sink.new ≡ K.faults sink.old) }
 
     // Each of these causes gives its status, unless memory is wanting.
     ensures words_refused { asks_dump (words_of words.now) ≡ false → result.status ≡ Status.Words }
-    ensures refused { asks_dump (words_of words.now) ≡ true → CallsFirst (λ disk now. (fault : Fault) → IsTrue D.tells → ¬ (DiskRose (D.faults disk) (D.faults now)) → opens_to (D.view disk).seen 1 0 most_slots ≡ Err fault → (result.status ≡ Status.NotOpened 0 fault) ⊎ (result.status ≡ Status.NoMemory)) disks.items result.disks.items }
+    ensures refused { AsksDump words.now → CallsFirst (EachFaultShows D.Disk result.status) disks.items result.disks.items }
 
     // What nothing hinders ends well, unless memory is wanting.
-    ensures complete { asks_dump (words_of words.now) ≡ true → CallsFirst (λ disk now. IsTrue D.tells → ¬ (DiskRose (D.faults disk) (D.faults now)) → ¬ (Rose (K.faults sink.old) (K.faults sink.new)) → IsOk (opens_to (D.view disk).seen 1 0 most_slots) → (result.status ≡ Status.Ok) ⊎ (result.status ≡ Status.NoMemory)) disks.items result.disks.items }
+    ensures complete { AsksDump words.now → CallsFirst (DumpCompletes D.Disk K.Sink sink.old sink.new result.status) disks.items result.disks.items }
 {
     let mut disks = disks;
     if !asks_dump(words) {

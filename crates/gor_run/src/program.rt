@@ -1,19 +1,17 @@
 //! The run: the words, the input to its end, the store, its phases and its end.
-ghost use Rattle.std.specs.Prelude.{ℕ, ◌≡◌, ◌⊎◌, ◌+◌, ◌≤◌, ◌<◌, ◌∷◌, List, length, Some, None, Err, IsOk, IsTrue};
+ghost use Rattle.std.specs.Prelude.{ℕ, ◌≡◌, ◌+◌, ◌≤◌, length, None, IsTrue};
 ghost use Rattle.std.specs.List.{AllByRecursion};
 ghost use Rattle.std.specs.Io.KnownBytes.{Keeps};
-ghost use Rattle.gor_disk.specs.Disk.{NothingPending, Rose as DiskRose};
+ghost use Rattle.gor_disk.specs.Disk.{NothingPending};
 ghost use Rattle.gor_image.specs.declared.fault.ImageFault.{ImageFault as Fault};
-ghost use Rattle.gor_image.specs.Images.{opens_to};
 ghost use Rattle.gor_outside.specs.Causes.{Rose};
-ghost use Rattle.gor_text.specs.Workloads.{IsFirstBad};
-ghost use Rattle.gor_run.specs.Dumps.{CallsFirst};
-ghost use Rattle.gor_run.specs.Words.{words_of, slots_of_run};
-ghost use Rattle.gor_run.specs.Inputs.{most_input, IsTooLong};
-ghost use Rattle.gor_run.specs.TakenLines.{is_taken_item};
+ghost use Rattle.gor_run.specs.Dumps.{EndsAs};
+ghost use Rattle.gor_run.specs.Ends.{BrokeOff, Completes, HasBadInput, HasGoodInput, HasLongInput, IsRefusedFor, MeetsDeviceFault, MeetsImageFault, OnFirst, OnSound, WantedMemory};
+ghost use Rattle.gor_run.specs.Inputs.{IsTooLong};
+ghost use Rattle.gor_run.specs.Runs.{Answers, HasBadLine, WritesOneText, run_of};
 ghost use Rattle.gor_run.specs.Serving.{unopened_status};
 ghost use Rattle.gor_run.specs.Statuses.{CallsNoDisk, WritesNothing};
-ghost use Rattle.gor_run.specs.Runs.{Answers, BreaksOff, HasBadLine, IsGoodInput, IsUnopened, RunsShort, Stops, WritesOneText};
+ghost use Rattle.gor_run.specs.Words.{words_of, slots_of_run};
 
 use crate::outcome::Outcome;
 use crate::reading::read_workload;
@@ -62,19 +60,19 @@ pub fn run<
     requires pending { IsTrue D.tells → AllByRecursion (λ d. NothingPending (D.view d)) disks.items }
 
     // The headline.
-    ensures answered { result.status ≡ Status.Ok → CallsFirst (λ disk now. Answers D.tells D.view D.faults (words_of words.now) (S.left source.old) (S.left source.new) (K.held sink.old) (K.held sink.new) disk now) disks.items result.disks.items }
+    ensures answered { result.status ≡ Status.Ok → OnFirst Answers (run_of S.Source K.Sink D.Disk words.now source.old source.new sink.old sink.new disks result) }
     ensures quiet { result.status ≡ Status.Ok → K.faults sink.new ≡ K.faults sink.old }
 
     // Where one lane alone has lines and the disk did not fail, what was written is the only text that answers them.
-    ensures one_text { result.status ≡ Status.Ok → CallsFirst (λ disk now. ¬ (DiskRose (D.faults disk) (D.faults now)) → WritesOneText D.tells D.view D.faults (words_of words.now) (S.left source.old) (S.left source.new) (K.held sink.old) (K.held sink.new) disk now) disks.items result.disks.items }
+    ensures one_text { result.status ≡ Status.Ok → OnSound WritesOneText (run_of S.Source K.Sink D.Disk words.now source.old source.new sink.old sink.new disks result) }
 
     // A shard that could not be opened, or that was stopped.
-    ensures device_fault { (shard : ℕ) → result.status ≡ Status.DeviceFault shard → CallsFirst (λ disk now. (shard ≡ 0) × DiskRose (D.faults disk) (D.faults now) × ((IsUnopened D.tells D.view D.faults (words_of words.now) (S.left source.old) (S.left source.new) OpenFault.Disk disk now × Keeps (K.held sink.old) (K.held sink.new) × (K.faults sink.new ≡ K.faults sink.old)) ⊎ Stops D.tells D.view D.faults (words_of words.now) (S.left source.old) (S.left source.new) (K.held sink.old) (K.held sink.new) (K.faults sink.old) (K.faults sink.new) disk now)) disks.items result.disks.items }
-    ensures not_opened { (shard : ℕ) (fault : Fault) → result.status ≡ Status.NotOpened shard fault → CallsFirst (λ disk now. (shard ≡ 0) × IsUnopened D.tells D.view D.faults (words_of words.now) (S.left source.old) (S.left source.new) (OpenFault.Image fault) disk now) disks.items result.disks.items }
+    ensures device_fault { (shard : ℕ) → MeetsDeviceFault shard (run_of S.Source K.Sink D.Disk words.now source.old source.new sink.old sink.new disks result) }
+    ensures not_opened { (shard : ℕ) → MeetsImageFault shard (run_of S.Source K.Sink D.Disk words.now source.old source.new sink.old sink.new disks result) }
 
     // What stands where the output was not written whole.
-    ensures write_fault { result.status ≡ Status.WriteFault → Rose (K.faults sink.old) (K.faults sink.new) × CallsFirst (λ disk now. BreaksOff D.tells D.view D.faults (words_of words.now) (S.left source.old) (S.left source.new) (K.held sink.old) (K.held sink.new) disk now) disks.items result.disks.items }
-    ensures memory { result.status ≡ Status.NoMemory → (K.faults sink.new ≡ K.faults sink.old) × CallsFirst (λ disk now. (Keeps (K.held sink.old) (K.held sink.new) × ((now ≡ disk) ⊎ IsUnopened D.tells D.view D.faults (words_of words.now) (S.left source.old) (S.left source.new) OpenFault.NoMemory disk now)) ⊎ RunsShort D.tells D.view D.faults (words_of words.now) (S.left source.old) (S.left source.new) (K.held sink.old) (K.held sink.new) disk now) disks.items result.disks.items }
+    ensures write_fault { result.status ≡ Status.WriteFault → BrokeOff (run_of S.Source K.Sink D.Disk words.now source.old source.new sink.old sink.new disks result) }
+    ensures memory { result.status ≡ Status.NoMemory → WantedMemory (run_of S.Source K.Sink D.Disk words.now source.old source.new sink.old sink.new disks result) }
     ensures nothing_written { WritesNothing result.status → Keeps (K.held sink.old) (K.held sink.new) × (K.faults sink.new ≡ K.faults sink.old) }
     ensures uncalled { CallsNoDisk result.status → result.disks.items ≡ disks.items }
 
@@ -86,12 +84,12 @@ pub fn run<
 
     // Each of these causes gives its status, unless memory is wanting.
     ensures words_refused { slots_of_run (words_of words.now) ≡ None → result.status ≡ Status.Words }
-    ensures long_refused { (input : List ℕ) → ¬ (slots_of_run (words_of words.now) ≡ None) → ¬ (Rose (S.faults source.old) (S.faults source.new)) → S.left source.old ≡ Some input → most_input < length input → (result.status ≡ Status.TooLong) ⊎ (result.status ≡ Status.NoMemory) }
-    ensures bad_refused { (input : List ℕ) (line : ℕ) → ¬ (slots_of_run (words_of words.now) ≡ None) → ¬ (Rose (S.faults source.old) (S.faults source.new)) → S.left source.old ≡ Some input → length input ≤ most_input → IsFirstBad is_taken_item input line → (result.status ≡ Status.BadLine line) ⊎ (result.status ≡ Status.NoMemory) }
-    ensures refused { (input : List ℕ) (slots : ℕ) (fault : Fault) → slots_of_run (words_of words.now) ≡ Some slots → ¬ (Rose (S.faults source.old) (S.faults source.new)) → S.left source.old ≡ Some input → IsGoodInput input → CallsFirst (λ disk now. IsTrue D.tells → ¬ (DiskRose (D.faults disk) (D.faults now)) → opens_to (D.view disk).seen 1 0 slots ≡ Err fault → (result.status ≡ Status.NotOpened 0 fault) ⊎ (result.status ≡ Status.NoMemory)) disks.items result.disks.items }
+    ensures long_refused { HasLongInput S.Source words.now source.old source.new → EndsAs Status.TooLong result.status }
+    ensures bad_refused { (line : ℕ) → HasBadInput S.Source words.now source.old source.new line → EndsAs (Status.BadLine line) result.status }
+    ensures refused { (slots : ℕ) (fault : Fault) → HasGoodInput S.Source words.now source.old source.new slots → IsRefusedFor D.Disk slots fault disks result }
 
     // What nothing hinders ends well, unless memory is wanting.
-    ensures complete { (input : List ℕ) (slots : ℕ) → slots_of_run (words_of words.now) ≡ Some slots → ¬ (Rose (S.faults source.old) (S.faults source.new)) → ¬ (Rose (K.faults sink.old) (K.faults sink.new)) → S.left source.old ≡ Some input → IsGoodInput input → CallsFirst (λ disk now. IsTrue D.tells → ¬ (DiskRose (D.faults disk) (D.faults now)) → IsOk (opens_to (D.view disk).seen 1 0 slots) → (result.status ≡ Status.Ok) ⊎ (result.status ≡ Status.NoMemory)) disks.items result.disks.items }
+    ensures complete { (slots : ℕ) → HasGoodInput S.Source words.now source.old source.new slots → Completes D.Disk K.Sink sink.old sink.new slots disks result }
 
     // Each read takes at least one byte, or is the last.
     ensures turns { S.reads source.new ≤ S.reads source.old + 16777217 }

@@ -1,14 +1,14 @@
 use Rattle.std.proofs.Common.{◌≡◌, sym, subst, ap, inl, inr, refl, ◌∙◌, arith}
 use Rattle.std.specs.Prelude.{map}
 use Rattle.gor_text.specs.Workloads.{phase_lines, lines_in}
-use Rattle.gor_run.specs.Serving.{EndsBy}
-use Rattle.gor_run.specs.Statuses.{IsRead, IsReadFault, CallsNoDisk}
+use Rattle.gor_run.specs.Runs.{run_of}
+use Rattle.gor_run.specs.Statuses.{IsReadFault, CallsNoDisk}
 use Rattle.gor_run.specs.TakenLines.{AreTakenPhases, lines_of_phases}
 use Rattle.gor_run.specs.Words.{words_of}
 use Rattle.gor_run.specs.declared.status.Status.TheVariants as status
 use Rattle.gor_run.proofs.Taken.{text_taken, text_few}
 use Rattle.gor_run.proofs.RunSteps.{run_within, first_of, not_called, keeps_itself, no_fault, long_unread, bad_unread, good_unread, read_not_long, read_not_bad}
-use Rattle.gor_run.proofs.RunEnds.{asked_for, opened_first, opened_answered, opened_quiet, opened_device, opened_write, opened_memory, opened_writes, opened_calls, opened_complete, opened_refused, none_other, unopened_first, unopened_other, unopened_ok, unopened_write, unopened_device, unopened_image, unopened_memory, unopened_refused, unopened_complete}
+use Rattle.gor_run.proofs.RunEnds.{was_opened, opened_answered, opened_quiet, opened_device, opened_write, opened_memory, opened_writes, opened_calls, opened_complete, opened_refused, none_other, not_opened, unopened_other, unopened_ok, unopened_write, unopened_device, unopened_image, unopened_memory, unopened_refused, unopened_complete}
 use Rattle.gor_run.proofs.OnlyTexts.{first_also, writes_one_text}
 use Rattle.gor_run.proofs.program.run.Goals as goal
 
@@ -89,127 +89,79 @@ returns-in-Err-clause-words_refused g c =
 
 pub returns-in-Err-clause-long_refused : goal.returns-in-Err-clause-long_refused
 returns-in-Err-clause-long_refused g c =
-    λ input run quiet told long. long_unread (g.S.Source.left c.args.source.now) (g.S.Source.left c.read_workload.new.source) (g.S.Source.faults c.args.source.now) (g.S.Source.faults c.read_workload.new.source) input told quiet c.in-Err.status c.in-Err.ensures.fault long
+    λ i. long_unread (g.S.Source.left c.args.source.now) (g.S.Source.left c.read_workload.new.source) (g.S.Source.faults c.args.source.now) (g.S.Source.faults c.read_workload.new.source) i.input i.given.told i.given.quiet c.in-Err.status c.in-Err.ensures.fault i.long
 
 pub returns-in-Err-clause-bad_refused : goal.returns-in-Err-clause-bad_refused
 returns-in-Err-clause-bad_refused g c =
-    λ input line run quiet told short bad. bad_unread (g.S.Source.left c.args.source.now) (g.S.Source.left c.read_workload.new.source) (g.S.Source.faults c.args.source.now) (g.S.Source.faults c.read_workload.new.source) input told quiet line c.in-Err.status c.in-Err.ensures.fault short bad
+    λ line i. bad_unread (g.S.Source.left c.args.source.now) (g.S.Source.left c.read_workload.new.source) (g.S.Source.faults c.args.source.now) (g.S.Source.faults c.read_workload.new.source) i.input i.given.told i.given.quiet line c.in-Err.status c.in-Err.ensures.fault i.short i.bad
 
 pub returns-in-Err-clause-refused : goal.returns-in-Err-clause-refused
 returns-in-Err-clause-refused g c =
-    λ input slots fault named quiet told good. not_called _ c.args.disks.items c.requires.sixteen (λ first tells still refuses. inr (good_unread (g.S.Source.left c.args.source.now) (g.S.Source.left c.read_workload.new.source) (g.S.Source.faults c.args.source.now) (g.S.Source.faults c.read_workload.new.source) input told quiet c.in-Err.status c.in-Err.ensures.fault good))
+    λ slots fault i. not_called _ c.args.disks.items c.requires.sixteen (λ first tells still refuses. inr (good_unread (g.S.Source.left c.args.source.now) (g.S.Source.left c.read_workload.new.source) (g.S.Source.faults c.args.source.now) (g.S.Source.faults c.read_workload.new.source) i.input i.told i.quiet c.in-Err.status c.in-Err.ensures.fault i.good))
 
 pub returns-in-Err-clause-complete : goal.returns-in-Err-clause-complete
 returns-in-Err-clause-complete g c =
-    λ input slots named quiet still told good. not_called _ c.args.disks.items c.requires.sixteen (λ first tells calm opens. inr (good_unread (g.S.Source.left c.args.source.now) (g.S.Source.left c.read_workload.new.source) (g.S.Source.faults c.args.source.now) (g.S.Source.faults c.read_workload.new.source) input told quiet c.in-Err.status c.in-Err.ensures.fault good))
+    λ slots i still. not_called _ c.args.disks.items c.requires.sixteen (λ first tells calm opens. inr (good_unread (g.S.Source.left c.args.source.now) (g.S.Source.left c.read_workload.new.source) (g.S.Source.faults c.args.source.now) (g.S.Source.faults c.read_workload.new.source) i.input i.told i.quiet c.in-Err.status c.in-Err.ensures.fault i.good))
 
 pub returns-in-Ok-open-clause-answered : goal.returns-in-Ok-open-clause-answered
 returns-in-Ok-open-clause-answered g c =
-    λ is. opened_answered g.D.Disk.tells g.D.Disk.view g.D.Disk.faults (words_of c.args.words.now) (g.S.Source.left c.args.source.now) (g.S.Source.left c.read_workload.new.source) (g.K.Sink.held c.args.sink.now) (g.K.Sink.held c.serve.new.sink) (g.K.Sink.faults c.args.sink.now) (g.K.Sink.faults c.serve.new.sink) c.in-Some.slots (map phase_lines c.deref.result.now)
-    (asked_for (words_of c.args.words.now) (g.S.Source.left c.args.source.now) (g.S.Source.left c.read_workload.new.source) c.in-Some.slots (map phase_lines c.deref.result.now) (sym c.in-Some.ensures)
-    (subst (λ phases. IsRead (g.S.Source.left c.args.source.now) (g.S.Source.left c.read_workload.new.source) (map phase_lines phases)) (sym c.deref.ensures.value) c.in-Ok.ensures.read))
-    c.args.disks.items c.serve.result.disks.items c.serve.result.status (opened_first g.D.Disk.tells g.D.Disk.view g.D.Disk.faults c.in-Some.slots c.args.disks.items c.serve.result.disks.items c.in-Ok-open.store
-    (λ n one now. EndsBy g.D.Disk.tells g.D.Disk.view g.D.Disk.faults c.serve.result.status n (map phase_lines c.deref.result.now) (g.K.Sink.held c.args.sink.now) (g.K.Sink.held c.serve.new.sink) (g.K.Sink.faults c.args.sink.now) (g.K.Sink.faults c.serve.new.sink) one now)
-    (first_of c.args.disks.items c.requires.sixteen) (c.in-Ok-open.ensures.begins) c.serve.ensures) is
+    λ is. opened_answered (was_opened (run_of g.S.Source g.K.Sink g.D.Disk c.args.words.now c.args.source.now c.read_workload.new.source c.args.sink.now c.serve.new.sink c.args.disks c.serve.result) c.in-Some.slots (map phase_lines c.deref.result.now) (lines_in c.in-Ok.workload) (ap (map phase_lines) c.deref.ensures.value) (sym c.in-Some.ensures) c.in-Ok.ensures.read
+    c.in-Ok-open.store (first_of c.args.disks.items c.requires.sixteen) c.in-Ok-open.ensures.begins c.serve.ensures) is
 
 pub returns-in-Ok-open-clause-quiet : goal.returns-in-Ok-open-clause-quiet
 returns-in-Ok-open-clause-quiet g c =
-    λ is. opened_quiet g.D.Disk.tells g.D.Disk.view g.D.Disk.faults (words_of c.args.words.now) (g.S.Source.left c.args.source.now) (g.S.Source.left c.read_workload.new.source) (g.K.Sink.held c.args.sink.now) (g.K.Sink.held c.serve.new.sink) (g.K.Sink.faults c.args.sink.now) (g.K.Sink.faults c.serve.new.sink) c.in-Some.slots (map phase_lines c.deref.result.now)
-    (asked_for (words_of c.args.words.now) (g.S.Source.left c.args.source.now) (g.S.Source.left c.read_workload.new.source) c.in-Some.slots (map phase_lines c.deref.result.now) (sym c.in-Some.ensures)
-    (subst (λ phases. IsRead (g.S.Source.left c.args.source.now) (g.S.Source.left c.read_workload.new.source) (map phase_lines phases)) (sym c.deref.ensures.value) c.in-Ok.ensures.read))
-    c.args.disks.items c.serve.result.disks.items c.serve.result.status (opened_first g.D.Disk.tells g.D.Disk.view g.D.Disk.faults c.in-Some.slots c.args.disks.items c.serve.result.disks.items c.in-Ok-open.store
-    (λ n one now. EndsBy g.D.Disk.tells g.D.Disk.view g.D.Disk.faults c.serve.result.status n (map phase_lines c.deref.result.now) (g.K.Sink.held c.args.sink.now) (g.K.Sink.held c.serve.new.sink) (g.K.Sink.faults c.args.sink.now) (g.K.Sink.faults c.serve.new.sink) one now)
-    (first_of c.args.disks.items c.requires.sixteen) (c.in-Ok-open.ensures.begins) c.serve.ensures) is
+    λ is. opened_quiet (was_opened (run_of g.S.Source g.K.Sink g.D.Disk c.args.words.now c.args.source.now c.read_workload.new.source c.args.sink.now c.serve.new.sink c.args.disks c.serve.result) c.in-Some.slots (map phase_lines c.deref.result.now) (lines_in c.in-Ok.workload) (ap (map phase_lines) c.deref.ensures.value) (sym c.in-Some.ensures) c.in-Ok.ensures.read
+    c.in-Ok-open.store (first_of c.args.disks.items c.requires.sixteen) c.in-Ok-open.ensures.begins c.serve.ensures) is
 
 pub returns-in-Ok-open-clause-device_fault : goal.returns-in-Ok-open-clause-device_fault
 returns-in-Ok-open-clause-device_fault g c =
-    λ shard is. opened_device g.D.Disk.tells g.D.Disk.view g.D.Disk.faults (words_of c.args.words.now) (g.S.Source.left c.args.source.now) (g.S.Source.left c.read_workload.new.source) (g.K.Sink.held c.args.sink.now) (g.K.Sink.held c.serve.new.sink) (g.K.Sink.faults c.args.sink.now) (g.K.Sink.faults c.serve.new.sink) c.in-Some.slots (map phase_lines c.deref.result.now)
-    (asked_for (words_of c.args.words.now) (g.S.Source.left c.args.source.now) (g.S.Source.left c.read_workload.new.source) c.in-Some.slots (map phase_lines c.deref.result.now) (sym c.in-Some.ensures)
-    (subst (λ phases. IsRead (g.S.Source.left c.args.source.now) (g.S.Source.left c.read_workload.new.source) (map phase_lines phases)) (sym c.deref.ensures.value) c.in-Ok.ensures.read))
-    c.args.disks.items c.serve.result.disks.items c.serve.result.status (opened_first g.D.Disk.tells g.D.Disk.view g.D.Disk.faults c.in-Some.slots c.args.disks.items c.serve.result.disks.items c.in-Ok-open.store
-    (λ n one now. EndsBy g.D.Disk.tells g.D.Disk.view g.D.Disk.faults c.serve.result.status n (map phase_lines c.deref.result.now) (g.K.Sink.held c.args.sink.now) (g.K.Sink.held c.serve.new.sink) (g.K.Sink.faults c.args.sink.now) (g.K.Sink.faults c.serve.new.sink) one now)
-    (first_of c.args.disks.items c.requires.sixteen) (c.in-Ok-open.ensures.begins) c.serve.ensures) shard is
+    λ shard is. opened_device (was_opened (run_of g.S.Source g.K.Sink g.D.Disk c.args.words.now c.args.source.now c.read_workload.new.source c.args.sink.now c.serve.new.sink c.args.disks c.serve.result) c.in-Some.slots (map phase_lines c.deref.result.now) (lines_in c.in-Ok.workload) (ap (map phase_lines) c.deref.ensures.value) (sym c.in-Some.ensures) c.in-Ok.ensures.read
+    c.in-Ok-open.store (first_of c.args.disks.items c.requires.sixteen) c.in-Ok-open.ensures.begins c.serve.ensures) shard is
 
 pub returns-in-Ok-open-clause-not_opened : goal.returns-in-Ok-open-clause-not_opened
 returns-in-Ok-open-clause-not_opened g c =
-    λ shard fault is. absurd (none_other g.D.Disk.tells g.D.Disk.view g.D.Disk.faults (words_of c.args.words.now) (g.S.Source.left c.args.source.now) (g.S.Source.left c.read_workload.new.source) (g.K.Sink.held c.args.sink.now) (g.K.Sink.held c.serve.new.sink) (g.K.Sink.faults c.args.sink.now) (g.K.Sink.faults c.serve.new.sink) c.in-Some.slots (map phase_lines c.deref.result.now)
-    (asked_for (words_of c.args.words.now) (g.S.Source.left c.args.source.now) (g.S.Source.left c.read_workload.new.source) c.in-Some.slots (map phase_lines c.deref.result.now) (sym c.in-Some.ensures)
-    (subst (λ phases. IsRead (g.S.Source.left c.args.source.now) (g.S.Source.left c.read_workload.new.source) (map phase_lines phases)) (sym c.deref.ensures.value) c.in-Ok.ensures.read))
-    c.args.disks.items c.serve.result.disks.items c.serve.result.status (opened_first g.D.Disk.tells g.D.Disk.view g.D.Disk.faults c.in-Some.slots c.args.disks.items c.serve.result.disks.items c.in-Ok-open.store
-    (λ n one now. EndsBy g.D.Disk.tells g.D.Disk.view g.D.Disk.faults c.serve.result.status n (map phase_lines c.deref.result.now) (g.K.Sink.held c.args.sink.now) (g.K.Sink.held c.serve.new.sink) (g.K.Sink.faults c.args.sink.now) (g.K.Sink.faults c.serve.new.sink) one now)
-    (first_of c.args.disks.items c.requires.sixteen) (c.in-Ok-open.ensures.begins) c.serve.ensures) (status.NotOpened shard fault) (λ first now e. e) is)
+    λ shard fault is. absurd (none_other (was_opened (run_of g.S.Source g.K.Sink g.D.Disk c.args.words.now c.args.source.now c.read_workload.new.source c.args.sink.now c.serve.new.sink c.args.disks c.serve.result) c.in-Some.slots (map phase_lines c.deref.result.now) (lines_in c.in-Ok.workload) (ap (map phase_lines) c.deref.ensures.value) (sym c.in-Some.ensures) c.in-Ok.ensures.read
+    c.in-Ok-open.store (first_of c.args.disks.items c.requires.sixteen) c.in-Ok-open.ensures.begins c.serve.ensures) (status.NotOpened shard fault) (λ first now e. e) is)
 
 pub returns-in-Ok-open-clause-write_fault : goal.returns-in-Ok-open-clause-write_fault
 returns-in-Ok-open-clause-write_fault g c =
-    λ is. opened_write g.D.Disk.tells g.D.Disk.view g.D.Disk.faults (words_of c.args.words.now) (g.S.Source.left c.args.source.now) (g.S.Source.left c.read_workload.new.source) (g.K.Sink.held c.args.sink.now) (g.K.Sink.held c.serve.new.sink) (g.K.Sink.faults c.args.sink.now) (g.K.Sink.faults c.serve.new.sink) c.in-Some.slots (map phase_lines c.deref.result.now)
-    (asked_for (words_of c.args.words.now) (g.S.Source.left c.args.source.now) (g.S.Source.left c.read_workload.new.source) c.in-Some.slots (map phase_lines c.deref.result.now) (sym c.in-Some.ensures)
-    (subst (λ phases. IsRead (g.S.Source.left c.args.source.now) (g.S.Source.left c.read_workload.new.source) (map phase_lines phases)) (sym c.deref.ensures.value) c.in-Ok.ensures.read))
-    c.args.disks.items c.serve.result.disks.items c.serve.result.status (opened_first g.D.Disk.tells g.D.Disk.view g.D.Disk.faults c.in-Some.slots c.args.disks.items c.serve.result.disks.items c.in-Ok-open.store
-    (λ n one now. EndsBy g.D.Disk.tells g.D.Disk.view g.D.Disk.faults c.serve.result.status n (map phase_lines c.deref.result.now) (g.K.Sink.held c.args.sink.now) (g.K.Sink.held c.serve.new.sink) (g.K.Sink.faults c.args.sink.now) (g.K.Sink.faults c.serve.new.sink) one now)
-    (first_of c.args.disks.items c.requires.sixteen) (c.in-Ok-open.ensures.begins) c.serve.ensures) is
+    λ is. opened_write (was_opened (run_of g.S.Source g.K.Sink g.D.Disk c.args.words.now c.args.source.now c.read_workload.new.source c.args.sink.now c.serve.new.sink c.args.disks c.serve.result) c.in-Some.slots (map phase_lines c.deref.result.now) (lines_in c.in-Ok.workload) (ap (map phase_lines) c.deref.ensures.value) (sym c.in-Some.ensures) c.in-Ok.ensures.read
+    c.in-Ok-open.store (first_of c.args.disks.items c.requires.sixteen) c.in-Ok-open.ensures.begins c.serve.ensures) is
 
 pub returns-in-Ok-open-clause-memory : goal.returns-in-Ok-open-clause-memory
 returns-in-Ok-open-clause-memory g c =
-    λ is. opened_memory g.D.Disk.tells g.D.Disk.view g.D.Disk.faults (words_of c.args.words.now) (g.S.Source.left c.args.source.now) (g.S.Source.left c.read_workload.new.source) (g.K.Sink.held c.args.sink.now) (g.K.Sink.held c.serve.new.sink) (g.K.Sink.faults c.args.sink.now) (g.K.Sink.faults c.serve.new.sink) c.in-Some.slots (map phase_lines c.deref.result.now)
-    (asked_for (words_of c.args.words.now) (g.S.Source.left c.args.source.now) (g.S.Source.left c.read_workload.new.source) c.in-Some.slots (map phase_lines c.deref.result.now) (sym c.in-Some.ensures)
-    (subst (λ phases. IsRead (g.S.Source.left c.args.source.now) (g.S.Source.left c.read_workload.new.source) (map phase_lines phases)) (sym c.deref.ensures.value) c.in-Ok.ensures.read))
-    c.args.disks.items c.serve.result.disks.items c.serve.result.status (opened_first g.D.Disk.tells g.D.Disk.view g.D.Disk.faults c.in-Some.slots c.args.disks.items c.serve.result.disks.items c.in-Ok-open.store
-    (λ n one now. EndsBy g.D.Disk.tells g.D.Disk.view g.D.Disk.faults c.serve.result.status n (map phase_lines c.deref.result.now) (g.K.Sink.held c.args.sink.now) (g.K.Sink.held c.serve.new.sink) (g.K.Sink.faults c.args.sink.now) (g.K.Sink.faults c.serve.new.sink) one now)
-    (first_of c.args.disks.items c.requires.sixteen) (c.in-Ok-open.ensures.begins) c.serve.ensures) is
+    λ is. opened_memory (was_opened (run_of g.S.Source g.K.Sink g.D.Disk c.args.words.now c.args.source.now c.read_workload.new.source c.args.sink.now c.serve.new.sink c.args.disks c.serve.result) c.in-Some.slots (map phase_lines c.deref.result.now) (lines_in c.in-Ok.workload) (ap (map phase_lines) c.deref.ensures.value) (sym c.in-Some.ensures) c.in-Ok.ensures.read
+    c.in-Ok-open.store (first_of c.args.disks.items c.requires.sixteen) c.in-Ok-open.ensures.begins c.serve.ensures) is
 
 pub returns-in-Ok-open-clause-nothing_written : goal.returns-in-Ok-open-clause-nothing_written
 returns-in-Ok-open-clause-nothing_written g c =
-    λ nothing. absurd (opened_writes g.D.Disk.tells g.D.Disk.view g.D.Disk.faults (words_of c.args.words.now) (g.S.Source.left c.args.source.now) (g.S.Source.left c.read_workload.new.source) (g.K.Sink.held c.args.sink.now) (g.K.Sink.held c.serve.new.sink) (g.K.Sink.faults c.args.sink.now) (g.K.Sink.faults c.serve.new.sink) c.in-Some.slots (map phase_lines c.deref.result.now)
-    (asked_for (words_of c.args.words.now) (g.S.Source.left c.args.source.now) (g.S.Source.left c.read_workload.new.source) c.in-Some.slots (map phase_lines c.deref.result.now) (sym c.in-Some.ensures)
-    (subst (λ phases. IsRead (g.S.Source.left c.args.source.now) (g.S.Source.left c.read_workload.new.source) (map phase_lines phases)) (sym c.deref.ensures.value) c.in-Ok.ensures.read))
-    c.args.disks.items c.serve.result.disks.items c.serve.result.status (opened_first g.D.Disk.tells g.D.Disk.view g.D.Disk.faults c.in-Some.slots c.args.disks.items c.serve.result.disks.items c.in-Ok-open.store
-    (λ n one now. EndsBy g.D.Disk.tells g.D.Disk.view g.D.Disk.faults c.serve.result.status n (map phase_lines c.deref.result.now) (g.K.Sink.held c.args.sink.now) (g.K.Sink.held c.serve.new.sink) (g.K.Sink.faults c.args.sink.now) (g.K.Sink.faults c.serve.new.sink) one now)
-    (first_of c.args.disks.items c.requires.sixteen) (c.in-Ok-open.ensures.begins) c.serve.ensures) nothing)
+    λ nothing. absurd (opened_writes (was_opened (run_of g.S.Source g.K.Sink g.D.Disk c.args.words.now c.args.source.now c.read_workload.new.source c.args.sink.now c.serve.new.sink c.args.disks c.serve.result) c.in-Some.slots (map phase_lines c.deref.result.now) (lines_in c.in-Ok.workload) (ap (map phase_lines) c.deref.ensures.value) (sym c.in-Some.ensures) c.in-Ok.ensures.read
+    c.in-Ok-open.store (first_of c.args.disks.items c.requires.sixteen) c.in-Ok-open.ensures.begins c.serve.ensures) nothing)
 
 pub returns-in-Ok-open-clause-uncalled : goal.returns-in-Ok-open-clause-uncalled
 returns-in-Ok-open-clause-uncalled g c =
-    λ no. absurd (opened_calls g.D.Disk.tells g.D.Disk.view g.D.Disk.faults (words_of c.args.words.now) (g.S.Source.left c.args.source.now) (g.S.Source.left c.read_workload.new.source) (g.K.Sink.held c.args.sink.now) (g.K.Sink.held c.serve.new.sink) (g.K.Sink.faults c.args.sink.now) (g.K.Sink.faults c.serve.new.sink) c.in-Some.slots (map phase_lines c.deref.result.now)
-    (asked_for (words_of c.args.words.now) (g.S.Source.left c.args.source.now) (g.S.Source.left c.read_workload.new.source) c.in-Some.slots (map phase_lines c.deref.result.now) (sym c.in-Some.ensures)
-    (subst (λ phases. IsRead (g.S.Source.left c.args.source.now) (g.S.Source.left c.read_workload.new.source) (map phase_lines phases)) (sym c.deref.ensures.value) c.in-Ok.ensures.read))
-    c.args.disks.items c.serve.result.disks.items c.serve.result.status (opened_first g.D.Disk.tells g.D.Disk.view g.D.Disk.faults c.in-Some.slots c.args.disks.items c.serve.result.disks.items c.in-Ok-open.store
-    (λ n one now. EndsBy g.D.Disk.tells g.D.Disk.view g.D.Disk.faults c.serve.result.status n (map phase_lines c.deref.result.now) (g.K.Sink.held c.args.sink.now) (g.K.Sink.held c.serve.new.sink) (g.K.Sink.faults c.args.sink.now) (g.K.Sink.faults c.serve.new.sink) one now)
-    (first_of c.args.disks.items c.requires.sixteen) (c.in-Ok-open.ensures.begins) c.serve.ensures) no)
+    λ no. absurd (opened_calls (was_opened (run_of g.S.Source g.K.Sink g.D.Disk c.args.words.now c.args.source.now c.read_workload.new.source c.args.sink.now c.serve.new.sink c.args.disks c.serve.result) c.in-Some.slots (map phase_lines c.deref.result.now) (lines_in c.in-Ok.workload) (ap (map phase_lines) c.deref.ensures.value) (sym c.in-Some.ensures) c.in-Ok.ensures.read
+    c.in-Ok-open.store (first_of c.args.disks.items c.requires.sixteen) c.in-Ok-open.ensures.begins c.serve.ensures) no)
 
 pub returns-in-Ok-open-clause-words : goal.returns-in-Ok-open-clause-words
 returns-in-Ok-open-clause-words g c =
-    λ is. absurd (none_other g.D.Disk.tells g.D.Disk.view g.D.Disk.faults (words_of c.args.words.now) (g.S.Source.left c.args.source.now) (g.S.Source.left c.read_workload.new.source) (g.K.Sink.held c.args.sink.now) (g.K.Sink.held c.serve.new.sink) (g.K.Sink.faults c.args.sink.now) (g.K.Sink.faults c.serve.new.sink) c.in-Some.slots (map phase_lines c.deref.result.now)
-    (asked_for (words_of c.args.words.now) (g.S.Source.left c.args.source.now) (g.S.Source.left c.read_workload.new.source) c.in-Some.slots (map phase_lines c.deref.result.now) (sym c.in-Some.ensures)
-    (subst (λ phases. IsRead (g.S.Source.left c.args.source.now) (g.S.Source.left c.read_workload.new.source) (map phase_lines phases)) (sym c.deref.ensures.value) c.in-Ok.ensures.read))
-    c.args.disks.items c.serve.result.disks.items c.serve.result.status (opened_first g.D.Disk.tells g.D.Disk.view g.D.Disk.faults c.in-Some.slots c.args.disks.items c.serve.result.disks.items c.in-Ok-open.store
-    (λ n one now. EndsBy g.D.Disk.tells g.D.Disk.view g.D.Disk.faults c.serve.result.status n (map phase_lines c.deref.result.now) (g.K.Sink.held c.args.sink.now) (g.K.Sink.held c.serve.new.sink) (g.K.Sink.faults c.args.sink.now) (g.K.Sink.faults c.serve.new.sink) one now)
-    (first_of c.args.disks.items c.requires.sixteen) (c.in-Ok-open.ensures.begins) c.serve.ensures) status.Words (λ first now e. e) is)
+    λ is. absurd (none_other (was_opened (run_of g.S.Source g.K.Sink g.D.Disk c.args.words.now c.args.source.now c.read_workload.new.source c.args.sink.now c.serve.new.sink c.args.disks c.serve.result) c.in-Some.slots (map phase_lines c.deref.result.now) (lines_in c.in-Ok.workload) (ap (map phase_lines) c.deref.ensures.value) (sym c.in-Some.ensures) c.in-Ok.ensures.read
+    c.in-Ok-open.store (first_of c.args.disks.items c.requires.sixteen) c.in-Ok-open.ensures.begins c.serve.ensures) status.Words (λ first now e. e) is)
 
 pub returns-in-Ok-open-clause-read_fault : goal.returns-in-Ok-open-clause-read_fault
 returns-in-Ok-open-clause-read_fault g c =
-    λ is. absurd (none_other g.D.Disk.tells g.D.Disk.view g.D.Disk.faults (words_of c.args.words.now) (g.S.Source.left c.args.source.now) (g.S.Source.left c.read_workload.new.source) (g.K.Sink.held c.args.sink.now) (g.K.Sink.held c.serve.new.sink) (g.K.Sink.faults c.args.sink.now) (g.K.Sink.faults c.serve.new.sink) c.in-Some.slots (map phase_lines c.deref.result.now)
-    (asked_for (words_of c.args.words.now) (g.S.Source.left c.args.source.now) (g.S.Source.left c.read_workload.new.source) c.in-Some.slots (map phase_lines c.deref.result.now) (sym c.in-Some.ensures)
-    (subst (λ phases. IsRead (g.S.Source.left c.args.source.now) (g.S.Source.left c.read_workload.new.source) (map phase_lines phases)) (sym c.deref.ensures.value) c.in-Ok.ensures.read))
-    c.args.disks.items c.serve.result.disks.items c.serve.result.status (opened_first g.D.Disk.tells g.D.Disk.view g.D.Disk.faults c.in-Some.slots c.args.disks.items c.serve.result.disks.items c.in-Ok-open.store
-    (λ n one now. EndsBy g.D.Disk.tells g.D.Disk.view g.D.Disk.faults c.serve.result.status n (map phase_lines c.deref.result.now) (g.K.Sink.held c.args.sink.now) (g.K.Sink.held c.serve.new.sink) (g.K.Sink.faults c.args.sink.now) (g.K.Sink.faults c.serve.new.sink) one now)
-    (first_of c.args.disks.items c.requires.sixteen) (c.in-Ok-open.ensures.begins) c.serve.ensures) status.ReadFault (λ first now e. e) is)
+    λ is. absurd (none_other (was_opened (run_of g.S.Source g.K.Sink g.D.Disk c.args.words.now c.args.source.now c.read_workload.new.source c.args.sink.now c.serve.new.sink c.args.disks c.serve.result) c.in-Some.slots (map phase_lines c.deref.result.now) (lines_in c.in-Ok.workload) (ap (map phase_lines) c.deref.ensures.value) (sym c.in-Some.ensures) c.in-Ok.ensures.read
+    c.in-Ok-open.store (first_of c.args.disks.items c.requires.sixteen) c.in-Ok-open.ensures.begins c.serve.ensures) status.ReadFault (λ first now e. e) is)
 
 pub returns-in-Ok-open-clause-too_long : goal.returns-in-Ok-open-clause-too_long
 returns-in-Ok-open-clause-too_long g c =
-    λ is. absurd (none_other g.D.Disk.tells g.D.Disk.view g.D.Disk.faults (words_of c.args.words.now) (g.S.Source.left c.args.source.now) (g.S.Source.left c.read_workload.new.source) (g.K.Sink.held c.args.sink.now) (g.K.Sink.held c.serve.new.sink) (g.K.Sink.faults c.args.sink.now) (g.K.Sink.faults c.serve.new.sink) c.in-Some.slots (map phase_lines c.deref.result.now)
-    (asked_for (words_of c.args.words.now) (g.S.Source.left c.args.source.now) (g.S.Source.left c.read_workload.new.source) c.in-Some.slots (map phase_lines c.deref.result.now) (sym c.in-Some.ensures)
-    (subst (λ phases. IsRead (g.S.Source.left c.args.source.now) (g.S.Source.left c.read_workload.new.source) (map phase_lines phases)) (sym c.deref.ensures.value) c.in-Ok.ensures.read))
-    c.args.disks.items c.serve.result.disks.items c.serve.result.status (opened_first g.D.Disk.tells g.D.Disk.view g.D.Disk.faults c.in-Some.slots c.args.disks.items c.serve.result.disks.items c.in-Ok-open.store
-    (λ n one now. EndsBy g.D.Disk.tells g.D.Disk.view g.D.Disk.faults c.serve.result.status n (map phase_lines c.deref.result.now) (g.K.Sink.held c.args.sink.now) (g.K.Sink.held c.serve.new.sink) (g.K.Sink.faults c.args.sink.now) (g.K.Sink.faults c.serve.new.sink) one now)
-    (first_of c.args.disks.items c.requires.sixteen) (c.in-Ok-open.ensures.begins) c.serve.ensures) status.TooLong (λ first now e. e) is)
+    λ is. absurd (none_other (was_opened (run_of g.S.Source g.K.Sink g.D.Disk c.args.words.now c.args.source.now c.read_workload.new.source c.args.sink.now c.serve.new.sink c.args.disks c.serve.result) c.in-Some.slots (map phase_lines c.deref.result.now) (lines_in c.in-Ok.workload) (ap (map phase_lines) c.deref.ensures.value) (sym c.in-Some.ensures) c.in-Ok.ensures.read
+    c.in-Ok-open.store (first_of c.args.disks.items c.requires.sixteen) c.in-Ok-open.ensures.begins c.serve.ensures) status.TooLong (λ first now e. e) is)
 
 pub returns-in-Ok-open-clause-bad_line : goal.returns-in-Ok-open-clause-bad_line
 returns-in-Ok-open-clause-bad_line g c =
-    λ line is. absurd (none_other g.D.Disk.tells g.D.Disk.view g.D.Disk.faults (words_of c.args.words.now) (g.S.Source.left c.args.source.now) (g.S.Source.left c.read_workload.new.source) (g.K.Sink.held c.args.sink.now) (g.K.Sink.held c.serve.new.sink) (g.K.Sink.faults c.args.sink.now) (g.K.Sink.faults c.serve.new.sink) c.in-Some.slots (map phase_lines c.deref.result.now)
-    (asked_for (words_of c.args.words.now) (g.S.Source.left c.args.source.now) (g.S.Source.left c.read_workload.new.source) c.in-Some.slots (map phase_lines c.deref.result.now) (sym c.in-Some.ensures)
-    (subst (λ phases. IsRead (g.S.Source.left c.args.source.now) (g.S.Source.left c.read_workload.new.source) (map phase_lines phases)) (sym c.deref.ensures.value) c.in-Ok.ensures.read))
-    c.args.disks.items c.serve.result.disks.items c.serve.result.status (opened_first g.D.Disk.tells g.D.Disk.view g.D.Disk.faults c.in-Some.slots c.args.disks.items c.serve.result.disks.items c.in-Ok-open.store
-    (λ n one now. EndsBy g.D.Disk.tells g.D.Disk.view g.D.Disk.faults c.serve.result.status n (map phase_lines c.deref.result.now) (g.K.Sink.held c.args.sink.now) (g.K.Sink.held c.serve.new.sink) (g.K.Sink.faults c.args.sink.now) (g.K.Sink.faults c.serve.new.sink) one now)
-    (first_of c.args.disks.items c.requires.sixteen) (c.in-Ok-open.ensures.begins) c.serve.ensures) (status.BadLine line) (λ first now e. e) is)
+    λ line is. absurd (none_other (was_opened (run_of g.S.Source g.K.Sink g.D.Disk c.args.words.now c.args.source.now c.read_workload.new.source c.args.sink.now c.serve.new.sink c.args.disks c.serve.result) c.in-Some.slots (map phase_lines c.deref.result.now) (lines_in c.in-Ok.workload) (ap (map phase_lines) c.deref.ensures.value) (sym c.in-Some.ensures) c.in-Ok.ensures.read
+    c.in-Ok-open.store (first_of c.args.disks.items c.requires.sixteen) c.in-Ok-open.ensures.begins c.serve.ensures) (status.BadLine line) (λ first now e. e) is)
 
 pub returns-in-Ok-open-clause-words_refused : goal.returns-in-Ok-open-clause-words_refused
 returns-in-Ok-open-clause-words_refused g c =
@@ -217,38 +169,28 @@ returns-in-Ok-open-clause-words_refused g c =
 
 pub returns-in-Ok-open-clause-long_refused : goal.returns-in-Ok-open-clause-long_refused
 returns-in-Ok-open-clause-long_refused g c =
-    λ input run quiet told long. absurd (read_not_long (g.S.Source.left c.args.source.now) (g.S.Source.left c.read_workload.new.source) (g.S.Source.faults c.args.source.now) (g.S.Source.faults c.read_workload.new.source) input told (lines_in c.in-Ok.workload) c.in-Ok.ensures.read long)
+    λ i. absurd (read_not_long (g.S.Source.left c.args.source.now) (g.S.Source.left c.read_workload.new.source) (g.S.Source.faults c.args.source.now) (g.S.Source.faults c.read_workload.new.source) i.input i.given.told (lines_in c.in-Ok.workload) c.in-Ok.ensures.read i.long)
 
 pub returns-in-Ok-open-clause-bad_refused : goal.returns-in-Ok-open-clause-bad_refused
 returns-in-Ok-open-clause-bad_refused g c =
-    λ input line run quiet told short bad. absurd (read_not_bad (g.S.Source.left c.args.source.now) (g.S.Source.left c.read_workload.new.source) (g.S.Source.faults c.args.source.now) (g.S.Source.faults c.read_workload.new.source) input told (lines_in c.in-Ok.workload) line c.in-Ok.ensures.read bad)
+    λ line i. absurd (read_not_bad (g.S.Source.left c.args.source.now) (g.S.Source.left c.read_workload.new.source) (g.S.Source.faults c.args.source.now) (g.S.Source.faults c.read_workload.new.source) i.input i.given.told (lines_in c.in-Ok.workload) line c.in-Ok.ensures.read i.bad)
 
 pub returns-in-Ok-open-clause-refused : goal.returns-in-Ok-open-clause-refused
 returns-in-Ok-open-clause-refused g c =
-    λ input slots fault named quiet told good.
+    λ slots fault i.
     let f = first_of c.args.disks.items c.requires.sixteen in
-    opened_refused g.D.Disk.tells g.D.Disk.view g.D.Disk.faults (words_of c.args.words.now) (g.S.Source.left c.args.source.now) (g.S.Source.left c.read_workload.new.source) (g.K.Sink.held c.args.sink.now) (g.K.Sink.held c.serve.new.sink) (g.K.Sink.faults c.args.sink.now) (g.K.Sink.faults c.serve.new.sink) c.in-Some.slots (map phase_lines c.deref.result.now)
-    (asked_for (words_of c.args.words.now) (g.S.Source.left c.args.source.now) (g.S.Source.left c.read_workload.new.source) c.in-Some.slots (map phase_lines c.deref.result.now) (sym c.in-Some.ensures)
-    (subst (λ phases. IsRead (g.S.Source.left c.args.source.now) (g.S.Source.left c.read_workload.new.source) (map phase_lines phases)) (sym c.deref.ensures.value) c.in-Ok.ensures.read))
-    c.args.disks.items c.serve.result.disks.items c.serve.result.status f.first f.others _ slots fault f.are (c.in-Ok-open.ensures.begins f.first f.others f.are).2 named (opened_first g.D.Disk.tells g.D.Disk.view g.D.Disk.faults c.in-Some.slots c.args.disks.items c.serve.result.disks.items c.in-Ok-open.store
-    (λ n one now. EndsBy g.D.Disk.tells g.D.Disk.view g.D.Disk.faults c.serve.result.status n (map phase_lines c.deref.result.now) (g.K.Sink.held c.args.sink.now) (g.K.Sink.held c.serve.new.sink) (g.K.Sink.faults c.args.sink.now) (g.K.Sink.faults c.serve.new.sink) one now)
-    (first_of c.args.disks.items c.requires.sixteen) (c.in-Ok-open.ensures.begins) c.serve.ensures)
+    opened_refused (was_opened (run_of g.S.Source g.K.Sink g.D.Disk c.args.words.now c.args.source.now c.read_workload.new.source c.args.sink.now c.serve.new.sink c.args.disks c.serve.result) c.in-Some.slots (map phase_lines c.deref.result.now) (lines_in c.in-Ok.workload) (ap (map phase_lines) c.deref.ensures.value) (sym c.in-Some.ensures) c.in-Ok.ensures.read
+    c.in-Ok-open.store (first_of c.args.disks.items c.requires.sixteen) c.in-Ok-open.ensures.begins c.serve.ensures) f.first f.others _ slots fault f.are (c.in-Ok-open.ensures.begins f.first f.others f.are).2 i.asked
 
 pub returns-in-Ok-open-clause-complete : goal.returns-in-Ok-open-clause-complete
 returns-in-Ok-open-clause-complete g c =
-    λ input slots named quiet still told good. opened_complete g.D.Disk.tells g.D.Disk.view g.D.Disk.faults (words_of c.args.words.now) (g.S.Source.left c.args.source.now) (g.S.Source.left c.read_workload.new.source) (g.K.Sink.held c.args.sink.now) (g.K.Sink.held c.serve.new.sink) (g.K.Sink.faults c.args.sink.now) (g.K.Sink.faults c.serve.new.sink) c.in-Some.slots (map phase_lines c.deref.result.now)
-    (asked_for (words_of c.args.words.now) (g.S.Source.left c.args.source.now) (g.S.Source.left c.read_workload.new.source) c.in-Some.slots (map phase_lines c.deref.result.now) (sym c.in-Some.ensures)
-    (subst (λ phases. IsRead (g.S.Source.left c.args.source.now) (g.S.Source.left c.read_workload.new.source) (map phase_lines phases)) (sym c.deref.ensures.value) c.in-Ok.ensures.read))
-    c.args.disks.items c.serve.result.disks.items c.serve.result.status (opened_first g.D.Disk.tells g.D.Disk.view g.D.Disk.faults c.in-Some.slots c.args.disks.items c.serve.result.disks.items c.in-Ok-open.store
-    (λ n one now. EndsBy g.D.Disk.tells g.D.Disk.view g.D.Disk.faults c.serve.result.status n (map phase_lines c.deref.result.now) (g.K.Sink.held c.args.sink.now) (g.K.Sink.held c.serve.new.sink) (g.K.Sink.faults c.args.sink.now) (g.K.Sink.faults c.serve.new.sink) one now)
-    (first_of c.args.disks.items c.requires.sixteen) (c.in-Ok-open.ensures.begins) c.serve.ensures) slots still
+    λ slots i still. opened_complete (was_opened (run_of g.S.Source g.K.Sink g.D.Disk c.args.words.now c.args.source.now c.read_workload.new.source c.args.sink.now c.serve.new.sink c.args.disks c.serve.result) c.in-Some.slots (map phase_lines c.deref.result.now) (lines_in c.in-Ok.workload) (ap (map phase_lines) c.deref.ensures.value) (sym c.in-Some.ensures) c.in-Ok.ensures.read
+    c.in-Ok-open.store (first_of c.args.disks.items c.requires.sixteen) c.in-Ok-open.ensures.begins c.serve.ensures) slots still
 
 pub returns-clause-answered : goal.returns-clause-answered
 returns-clause-answered g c =
-    λ is. absurd (unopened_ok g.D.Disk.tells g.D.Disk.view g.D.Disk.faults (words_of c.args.words.now) (g.S.Source.left c.args.source.now) (g.S.Source.left c.read_workload.new.source) (g.K.Sink.held c.args.sink.now) (g.K.Sink.held c.args.sink.now) (g.K.Sink.faults c.args.sink.now) (g.K.Sink.faults c.args.sink.now) c.in-Some.slots (lines_in c.in-Ok.workload)
-    (asked_for (words_of c.args.words.now) (g.S.Source.left c.args.source.now) (g.S.Source.left c.read_workload.new.source) c.in-Some.slots (lines_in c.in-Ok.workload) (sym c.in-Some.ensures) c.in-Ok.ensures.read)
-    c.args.disks.items c.unopened.result.disks.items c.unopened.result.status
-    (unopened_first g.D.Disk.tells g.D.Disk.view g.D.Disk.faults c.in-Some.slots c.args.disks.items c.in-Err-open.refused c.unopened.result (first_of c.args.disks.items c.requires.sixteen) c.in-Err-open.ensures.refused c.unopened.ensures.status c.unopened.ensures.disks) is)
+    λ is. absurd (unopened_ok (not_opened (run_of g.S.Source g.K.Sink g.D.Disk c.args.words.now c.args.source.now c.read_workload.new.source c.args.sink.now c.args.sink.now c.args.disks c.unopened.result) c.in-Some.slots (lines_in c.in-Ok.workload) (sym c.in-Some.ensures) c.in-Ok.ensures.read
+    c.in-Err-open.refused (first_of c.args.disks.items c.requires.sixteen) c.in-Err-open.ensures.refused c.unopened.ensures.status (ap (λ ds. ds.items) c.unopened.ensures.disks)) is)
 
 pub returns-clause-quiet : goal.returns-clause-quiet
 returns-clause-quiet g c =
@@ -256,34 +198,23 @@ returns-clause-quiet g c =
 
 pub returns-clause-device_fault : goal.returns-clause-device_fault
 returns-clause-device_fault g c =
-    λ shard is. unopened_device g.D.Disk.tells g.D.Disk.view g.D.Disk.faults (words_of c.args.words.now) (g.S.Source.left c.args.source.now) (g.S.Source.left c.read_workload.new.source) (g.K.Sink.held c.args.sink.now) (g.K.Sink.held c.args.sink.now) (g.K.Sink.faults c.args.sink.now) (g.K.Sink.faults c.args.sink.now) c.in-Some.slots (lines_in c.in-Ok.workload)
-    (asked_for (words_of c.args.words.now) (g.S.Source.left c.args.source.now) (g.S.Source.left c.read_workload.new.source) c.in-Some.slots (lines_in c.in-Ok.workload) (sym c.in-Some.ensures) c.in-Ok.ensures.read)
-    c.args.disks.items c.unopened.result.disks.items c.unopened.result.status
-    (unopened_first g.D.Disk.tells g.D.Disk.view g.D.Disk.faults c.in-Some.slots c.args.disks.items c.in-Err-open.refused c.unopened.result (first_of c.args.disks.items c.requires.sixteen) c.in-Err-open.ensures.refused c.unopened.ensures.status c.unopened.ensures.disks) shard is (keeps_itself (g.K.Sink.held c.args.sink.now)) refl
+    λ shard is. unopened_device (not_opened (run_of g.S.Source g.K.Sink g.D.Disk c.args.words.now c.args.source.now c.read_workload.new.source c.args.sink.now c.args.sink.now c.args.disks c.unopened.result) c.in-Some.slots (lines_in c.in-Ok.workload) (sym c.in-Some.ensures) c.in-Ok.ensures.read
+    c.in-Err-open.refused (first_of c.args.disks.items c.requires.sixteen) c.in-Err-open.ensures.refused c.unopened.ensures.status (ap (λ ds. ds.items) c.unopened.ensures.disks)) shard (keeps_itself (g.K.Sink.held c.args.sink.now)) refl is
 
 pub returns-clause-not_opened : goal.returns-clause-not_opened
 returns-clause-not_opened g c =
-    λ shard fault is. unopened_image g.D.Disk.tells g.D.Disk.view g.D.Disk.faults (words_of c.args.words.now) (g.S.Source.left c.args.source.now) (g.S.Source.left c.read_workload.new.source) (g.K.Sink.held c.args.sink.now) (g.K.Sink.held c.args.sink.now) (g.K.Sink.faults c.args.sink.now) (g.K.Sink.faults c.args.sink.now) c.in-Some.slots (lines_in c.in-Ok.workload)
-    (asked_for (words_of c.args.words.now) (g.S.Source.left c.args.source.now) (g.S.Source.left c.read_workload.new.source) c.in-Some.slots (lines_in c.in-Ok.workload) (sym c.in-Some.ensures) c.in-Ok.ensures.read)
-    c.args.disks.items c.unopened.result.disks.items c.unopened.result.status
-    (unopened_first g.D.Disk.tells g.D.Disk.view g.D.Disk.faults c.in-Some.slots c.args.disks.items c.in-Err-open.refused c.unopened.result (first_of c.args.disks.items c.requires.sixteen) c.in-Err-open.ensures.refused c.unopened.ensures.status c.unopened.ensures.disks) shard fault is
+    λ shard fault is. unopened_image (not_opened (run_of g.S.Source g.K.Sink g.D.Disk c.args.words.now c.args.source.now c.read_workload.new.source c.args.sink.now c.args.sink.now c.args.disks c.unopened.result) c.in-Some.slots (lines_in c.in-Ok.workload) (sym c.in-Some.ensures) c.in-Ok.ensures.read
+    c.in-Err-open.refused (first_of c.args.disks.items c.requires.sixteen) c.in-Err-open.ensures.refused c.unopened.ensures.status (ap (λ ds. ds.items) c.unopened.ensures.disks)) shard fault is
 
 pub returns-clause-write_fault : goal.returns-clause-write_fault
 returns-clause-write_fault g c =
-    λ is. absurd (unopened_write g.D.Disk.tells g.D.Disk.view g.D.Disk.faults (words_of c.args.words.now) (g.S.Source.left c.args.source.now) (g.S.Source.left c.read_workload.new.source) (g.K.Sink.held c.args.sink.now) (g.K.Sink.held c.args.sink.now) (g.K.Sink.faults c.args.sink.now) (g.K.Sink.faults c.args.sink.now) c.in-Some.slots (lines_in c.in-Ok.workload)
-    (asked_for (words_of c.args.words.now) (g.S.Source.left c.args.source.now) (g.S.Source.left c.read_workload.new.source) c.in-Some.slots (lines_in c.in-Ok.workload) (sym c.in-Some.ensures) c.in-Ok.ensures.read)
-    c.args.disks.items c.unopened.result.disks.items c.unopened.result.status
-    (unopened_first g.D.Disk.tells g.D.Disk.view g.D.Disk.faults c.in-Some.slots c.args.disks.items c.in-Err-open.refused c.unopened.result (first_of c.args.disks.items c.requires.sixteen) c.in-Err-open.ensures.refused c.unopened.ensures.status c.unopened.ensures.disks) is)
+    λ is. absurd (unopened_write (not_opened (run_of g.S.Source g.K.Sink g.D.Disk c.args.words.now c.args.source.now c.read_workload.new.source c.args.sink.now c.args.sink.now c.args.disks c.unopened.result) c.in-Some.slots (lines_in c.in-Ok.workload) (sym c.in-Some.ensures) c.in-Ok.ensures.read
+    c.in-Err-open.refused (first_of c.args.disks.items c.requires.sixteen) c.in-Err-open.ensures.refused c.unopened.ensures.status (ap (λ ds. ds.items) c.unopened.ensures.disks)) is)
 
 pub returns-clause-memory : goal.returns-clause-memory
 returns-clause-memory g c =
-    λ is. (
-      refl,
-      unopened_memory g.D.Disk.tells g.D.Disk.view g.D.Disk.faults (words_of c.args.words.now) (g.S.Source.left c.args.source.now) (g.S.Source.left c.read_workload.new.source) (g.K.Sink.held c.args.sink.now) (g.K.Sink.held c.args.sink.now) (g.K.Sink.faults c.args.sink.now) (g.K.Sink.faults c.args.sink.now) c.in-Some.slots (lines_in c.in-Ok.workload)
-          (asked_for (words_of c.args.words.now) (g.S.Source.left c.args.source.now) (g.S.Source.left c.read_workload.new.source) c.in-Some.slots (lines_in c.in-Ok.workload) (sym c.in-Some.ensures) c.in-Ok.ensures.read)
-          c.args.disks.items c.unopened.result.disks.items c.unopened.result.status
-          (unopened_first g.D.Disk.tells g.D.Disk.view g.D.Disk.faults c.in-Some.slots c.args.disks.items c.in-Err-open.refused c.unopened.result (first_of c.args.disks.items c.requires.sixteen) c.in-Err-open.ensures.refused c.unopened.ensures.status c.unopened.ensures.disks) is (keeps_itself (g.K.Sink.held c.args.sink.now)),
-    )
+    unopened_memory (not_opened (run_of g.S.Source g.K.Sink g.D.Disk c.args.words.now c.args.source.now c.read_workload.new.source c.args.sink.now c.args.sink.now c.args.disks c.unopened.result) c.in-Some.slots (lines_in c.in-Ok.workload) (sym c.in-Some.ensures) c.in-Ok.ensures.read
+    c.in-Err-open.refused (first_of c.args.disks.items c.requires.sixteen) c.in-Err-open.ensures.refused c.unopened.ensures.status (ap (λ ds. ds.items) c.unopened.ensures.disks)) (keeps_itself (g.K.Sink.held c.args.sink.now)) refl
 
 pub returns-clause-nothing_written : goal.returns-clause-nothing_written
 returns-clause-nothing_written g c =
@@ -291,38 +222,28 @@ returns-clause-nothing_written g c =
 
 pub returns-clause-uncalled : goal.returns-clause-uncalled
 returns-clause-uncalled g c =
-    λ no. absurd (unopened_other g.D.Disk.tells g.D.Disk.view g.D.Disk.faults (words_of c.args.words.now) (g.S.Source.left c.args.source.now) (g.S.Source.left c.read_workload.new.source) (g.K.Sink.held c.args.sink.now) (g.K.Sink.held c.args.sink.now) (g.K.Sink.faults c.args.sink.now) (g.K.Sink.faults c.args.sink.now) c.in-Some.slots (lines_in c.in-Ok.workload)
-    (asked_for (words_of c.args.words.now) (g.S.Source.left c.args.source.now) (g.S.Source.left c.read_workload.new.source) c.in-Some.slots (lines_in c.in-Ok.workload) (sym c.in-Some.ensures) c.in-Ok.ensures.read)
-    c.args.disks.items c.unopened.result.disks.items c.unopened.result.status
-    (unopened_first g.D.Disk.tells g.D.Disk.view g.D.Disk.faults c.in-Some.slots c.args.disks.items c.in-Err-open.refused c.unopened.result (first_of c.args.disks.items c.requires.sixteen) c.in-Err-open.ensures.refused c.unopened.ensures.status c.unopened.ensures.disks) no)
+    λ no. absurd (unopened_other (not_opened (run_of g.S.Source g.K.Sink g.D.Disk c.args.words.now c.args.source.now c.read_workload.new.source c.args.sink.now c.args.sink.now c.args.disks c.unopened.result) c.in-Some.slots (lines_in c.in-Ok.workload) (sym c.in-Some.ensures) c.in-Ok.ensures.read
+    c.in-Err-open.refused (first_of c.args.disks.items c.requires.sixteen) c.in-Err-open.ensures.refused c.unopened.ensures.status (ap (λ ds. ds.items) c.unopened.ensures.disks)) no)
 
 pub returns-clause-words : goal.returns-clause-words
 returns-clause-words g c =
-    λ is. absurd (unopened_other g.D.Disk.tells g.D.Disk.view g.D.Disk.faults (words_of c.args.words.now) (g.S.Source.left c.args.source.now) (g.S.Source.left c.read_workload.new.source) (g.K.Sink.held c.args.sink.now) (g.K.Sink.held c.args.sink.now) (g.K.Sink.faults c.args.sink.now) (g.K.Sink.faults c.args.sink.now) c.in-Some.slots (lines_in c.in-Ok.workload)
-    (asked_for (words_of c.args.words.now) (g.S.Source.left c.args.source.now) (g.S.Source.left c.read_workload.new.source) c.in-Some.slots (lines_in c.in-Ok.workload) (sym c.in-Some.ensures) c.in-Ok.ensures.read)
-    c.args.disks.items c.unopened.result.disks.items c.unopened.result.status
-    (unopened_first g.D.Disk.tells g.D.Disk.view g.D.Disk.faults c.in-Some.slots c.args.disks.items c.in-Err-open.refused c.unopened.result (first_of c.args.disks.items c.requires.sixteen) c.in-Err-open.ensures.refused c.unopened.ensures.status c.unopened.ensures.disks) (subst CallsNoDisk (sym is) tt))
+    λ is. absurd (unopened_other (not_opened (run_of g.S.Source g.K.Sink g.D.Disk c.args.words.now c.args.source.now c.read_workload.new.source c.args.sink.now c.args.sink.now c.args.disks c.unopened.result) c.in-Some.slots (lines_in c.in-Ok.workload) (sym c.in-Some.ensures) c.in-Ok.ensures.read
+    c.in-Err-open.refused (first_of c.args.disks.items c.requires.sixteen) c.in-Err-open.ensures.refused c.unopened.ensures.status (ap (λ ds. ds.items) c.unopened.ensures.disks)) (subst CallsNoDisk (sym is) tt))
 
 pub returns-clause-read_fault : goal.returns-clause-read_fault
 returns-clause-read_fault g c =
-    λ is. absurd (unopened_other g.D.Disk.tells g.D.Disk.view g.D.Disk.faults (words_of c.args.words.now) (g.S.Source.left c.args.source.now) (g.S.Source.left c.read_workload.new.source) (g.K.Sink.held c.args.sink.now) (g.K.Sink.held c.args.sink.now) (g.K.Sink.faults c.args.sink.now) (g.K.Sink.faults c.args.sink.now) c.in-Some.slots (lines_in c.in-Ok.workload)
-    (asked_for (words_of c.args.words.now) (g.S.Source.left c.args.source.now) (g.S.Source.left c.read_workload.new.source) c.in-Some.slots (lines_in c.in-Ok.workload) (sym c.in-Some.ensures) c.in-Ok.ensures.read)
-    c.args.disks.items c.unopened.result.disks.items c.unopened.result.status
-    (unopened_first g.D.Disk.tells g.D.Disk.view g.D.Disk.faults c.in-Some.slots c.args.disks.items c.in-Err-open.refused c.unopened.result (first_of c.args.disks.items c.requires.sixteen) c.in-Err-open.ensures.refused c.unopened.ensures.status c.unopened.ensures.disks) (subst CallsNoDisk (sym is) tt))
+    λ is. absurd (unopened_other (not_opened (run_of g.S.Source g.K.Sink g.D.Disk c.args.words.now c.args.source.now c.read_workload.new.source c.args.sink.now c.args.sink.now c.args.disks c.unopened.result) c.in-Some.slots (lines_in c.in-Ok.workload) (sym c.in-Some.ensures) c.in-Ok.ensures.read
+    c.in-Err-open.refused (first_of c.args.disks.items c.requires.sixteen) c.in-Err-open.ensures.refused c.unopened.ensures.status (ap (λ ds. ds.items) c.unopened.ensures.disks)) (subst CallsNoDisk (sym is) tt))
 
 pub returns-clause-too_long : goal.returns-clause-too_long
 returns-clause-too_long g c =
-    λ is. absurd (unopened_other g.D.Disk.tells g.D.Disk.view g.D.Disk.faults (words_of c.args.words.now) (g.S.Source.left c.args.source.now) (g.S.Source.left c.read_workload.new.source) (g.K.Sink.held c.args.sink.now) (g.K.Sink.held c.args.sink.now) (g.K.Sink.faults c.args.sink.now) (g.K.Sink.faults c.args.sink.now) c.in-Some.slots (lines_in c.in-Ok.workload)
-    (asked_for (words_of c.args.words.now) (g.S.Source.left c.args.source.now) (g.S.Source.left c.read_workload.new.source) c.in-Some.slots (lines_in c.in-Ok.workload) (sym c.in-Some.ensures) c.in-Ok.ensures.read)
-    c.args.disks.items c.unopened.result.disks.items c.unopened.result.status
-    (unopened_first g.D.Disk.tells g.D.Disk.view g.D.Disk.faults c.in-Some.slots c.args.disks.items c.in-Err-open.refused c.unopened.result (first_of c.args.disks.items c.requires.sixteen) c.in-Err-open.ensures.refused c.unopened.ensures.status c.unopened.ensures.disks) (subst CallsNoDisk (sym is) tt))
+    λ is. absurd (unopened_other (not_opened (run_of g.S.Source g.K.Sink g.D.Disk c.args.words.now c.args.source.now c.read_workload.new.source c.args.sink.now c.args.sink.now c.args.disks c.unopened.result) c.in-Some.slots (lines_in c.in-Ok.workload) (sym c.in-Some.ensures) c.in-Ok.ensures.read
+    c.in-Err-open.refused (first_of c.args.disks.items c.requires.sixteen) c.in-Err-open.ensures.refused c.unopened.ensures.status (ap (λ ds. ds.items) c.unopened.ensures.disks)) (subst CallsNoDisk (sym is) tt))
 
 pub returns-clause-bad_line : goal.returns-clause-bad_line
 returns-clause-bad_line g c =
-    λ line is. absurd (unopened_other g.D.Disk.tells g.D.Disk.view g.D.Disk.faults (words_of c.args.words.now) (g.S.Source.left c.args.source.now) (g.S.Source.left c.read_workload.new.source) (g.K.Sink.held c.args.sink.now) (g.K.Sink.held c.args.sink.now) (g.K.Sink.faults c.args.sink.now) (g.K.Sink.faults c.args.sink.now) c.in-Some.slots (lines_in c.in-Ok.workload)
-    (asked_for (words_of c.args.words.now) (g.S.Source.left c.args.source.now) (g.S.Source.left c.read_workload.new.source) c.in-Some.slots (lines_in c.in-Ok.workload) (sym c.in-Some.ensures) c.in-Ok.ensures.read)
-    c.args.disks.items c.unopened.result.disks.items c.unopened.result.status
-    (unopened_first g.D.Disk.tells g.D.Disk.view g.D.Disk.faults c.in-Some.slots c.args.disks.items c.in-Err-open.refused c.unopened.result (first_of c.args.disks.items c.requires.sixteen) c.in-Err-open.ensures.refused c.unopened.ensures.status c.unopened.ensures.disks) (subst CallsNoDisk (sym is) tt))
+    λ line is. absurd (unopened_other (not_opened (run_of g.S.Source g.K.Sink g.D.Disk c.args.words.now c.args.source.now c.read_workload.new.source c.args.sink.now c.args.sink.now c.args.disks c.unopened.result) c.in-Some.slots (lines_in c.in-Ok.workload) (sym c.in-Some.ensures) c.in-Ok.ensures.read
+    c.in-Err-open.refused (first_of c.args.disks.items c.requires.sixteen) c.in-Err-open.ensures.refused c.unopened.ensures.status (ap (λ ds. ds.items) c.unopened.ensures.disks)) (subst CallsNoDisk (sym is) tt))
 
 pub returns-clause-words_refused : goal.returns-clause-words_refused
 returns-clause-words_refused g c =
@@ -330,31 +251,27 @@ returns-clause-words_refused g c =
 
 pub returns-clause-long_refused : goal.returns-clause-long_refused
 returns-clause-long_refused g c =
-    λ input run quiet told long. absurd (read_not_long (g.S.Source.left c.args.source.now) (g.S.Source.left c.read_workload.new.source) (g.S.Source.faults c.args.source.now) (g.S.Source.faults c.read_workload.new.source) input told (lines_in c.in-Ok.workload) c.in-Ok.ensures.read long)
+    λ i. absurd (read_not_long (g.S.Source.left c.args.source.now) (g.S.Source.left c.read_workload.new.source) (g.S.Source.faults c.args.source.now) (g.S.Source.faults c.read_workload.new.source) i.input i.given.told (lines_in c.in-Ok.workload) c.in-Ok.ensures.read i.long)
 
 pub returns-clause-bad_refused : goal.returns-clause-bad_refused
 returns-clause-bad_refused g c =
-    λ input line run quiet told short bad. absurd (read_not_bad (g.S.Source.left c.args.source.now) (g.S.Source.left c.read_workload.new.source) (g.S.Source.faults c.args.source.now) (g.S.Source.faults c.read_workload.new.source) input told (lines_in c.in-Ok.workload) line c.in-Ok.ensures.read bad)
+    λ line i. absurd (read_not_bad (g.S.Source.left c.args.source.now) (g.S.Source.left c.read_workload.new.source) (g.S.Source.faults c.args.source.now) (g.S.Source.faults c.read_workload.new.source) i.input i.given.told (lines_in c.in-Ok.workload) line c.in-Ok.ensures.read i.bad)
 
 pub returns-clause-refused : goal.returns-clause-refused
 returns-clause-refused g c =
-    λ input slots fault named quiet told good. unopened_refused g.D.Disk.tells g.D.Disk.view g.D.Disk.faults (words_of c.args.words.now) (g.S.Source.left c.args.source.now) (g.S.Source.left c.read_workload.new.source) (g.K.Sink.held c.args.sink.now) (g.K.Sink.held c.args.sink.now) (g.K.Sink.faults c.args.sink.now) (g.K.Sink.faults c.args.sink.now) c.in-Some.slots (lines_in c.in-Ok.workload)
-    (asked_for (words_of c.args.words.now) (g.S.Source.left c.args.source.now) (g.S.Source.left c.read_workload.new.source) c.in-Some.slots (lines_in c.in-Ok.workload) (sym c.in-Some.ensures) c.in-Ok.ensures.read)
-    c.args.disks.items c.unopened.result.disks.items c.unopened.result.status
-    (unopened_first g.D.Disk.tells g.D.Disk.view g.D.Disk.faults c.in-Some.slots c.args.disks.items c.in-Err-open.refused c.unopened.result (first_of c.args.disks.items c.requires.sixteen) c.in-Err-open.ensures.refused c.unopened.ensures.status c.unopened.ensures.disks) slots fault named
+    λ slots fault i. unopened_refused (not_opened (run_of g.S.Source g.K.Sink g.D.Disk c.args.words.now c.args.source.now c.read_workload.new.source c.args.sink.now c.args.sink.now c.args.disks c.unopened.result) c.in-Some.slots (lines_in c.in-Ok.workload) (sym c.in-Some.ensures) c.in-Ok.ensures.read
+    c.in-Err-open.refused (first_of c.args.disks.items c.requires.sixteen) c.in-Err-open.ensures.refused c.unopened.ensures.status (ap (λ ds. ds.items) c.unopened.ensures.disks)) slots fault i.asked
 
 pub returns-clause-complete : goal.returns-clause-complete
 returns-clause-complete g c =
-    λ input slots named quiet still told good. unopened_complete g.D.Disk.tells g.D.Disk.view g.D.Disk.faults (words_of c.args.words.now) (g.S.Source.left c.args.source.now) (g.S.Source.left c.read_workload.new.source) (g.K.Sink.held c.args.sink.now) (g.K.Sink.held c.args.sink.now) (g.K.Sink.faults c.args.sink.now) (g.K.Sink.faults c.args.sink.now) c.in-Some.slots (lines_in c.in-Ok.workload)
-    (asked_for (words_of c.args.words.now) (g.S.Source.left c.args.source.now) (g.S.Source.left c.read_workload.new.source) c.in-Some.slots (lines_in c.in-Ok.workload) (sym c.in-Some.ensures) c.in-Ok.ensures.read)
-    c.args.disks.items c.unopened.result.disks.items c.unopened.result.status
-    (unopened_first g.D.Disk.tells g.D.Disk.view g.D.Disk.faults c.in-Some.slots c.args.disks.items c.in-Err-open.refused c.unopened.result (first_of c.args.disks.items c.requires.sixteen) c.in-Err-open.ensures.refused c.unopened.ensures.status c.unopened.ensures.disks) slots named
+    λ slots i still. unopened_complete (not_opened (run_of g.S.Source g.K.Sink g.D.Disk c.args.words.now c.args.source.now c.read_workload.new.source c.args.sink.now c.args.sink.now c.args.disks c.unopened.result) c.in-Some.slots (lines_in c.in-Ok.workload) (sym c.in-Some.ensures) c.in-Ok.ensures.read
+    c.in-Err-open.refused (first_of c.args.disks.items c.requires.sixteen) c.in-Err-open.ensures.refused c.unopened.ensures.status (ap (λ ds. ds.items) c.unopened.ensures.disks)) slots i.asked
 
 pub returns-in-Err-clause-one_text : goal.returns-in-Err-clause-one_text
-returns-in-Err-clause-one_text g c = λ is. first_also _ _ (λ disk now answers quiet. writes_one_text g.D.Disk.tells g.D.Disk.view g.D.Disk.faults _ _ _ _ _ disk now answers quiet) _ _ (returns-in-Err-clause-answered g c is)
+returns-in-Err-clause-one_text g c = λ is. first_also _ _ (λ disk now answers quiet. writes_one_text _ disk now answers quiet) _ _ (returns-in-Err-clause-answered g c is)
 
 pub returns-in-Ok-open-clause-one_text : goal.returns-in-Ok-open-clause-one_text
-returns-in-Ok-open-clause-one_text g c = λ is. first_also _ _ (λ disk now answers quiet. writes_one_text g.D.Disk.tells g.D.Disk.view g.D.Disk.faults _ _ _ _ _ disk now answers quiet) _ _ (returns-in-Ok-open-clause-answered g c is)
+returns-in-Ok-open-clause-one_text g c = λ is. first_also _ _ (λ disk now answers quiet. writes_one_text _ disk now answers quiet) _ _ (returns-in-Ok-open-clause-answered g c is)
 
 pub returns-clause-one_text : goal.returns-clause-one_text
-returns-clause-one_text g c = λ is. first_also _ _ (λ disk now answers quiet. writes_one_text g.D.Disk.tells g.D.Disk.view g.D.Disk.faults _ _ _ _ _ disk now answers quiet) _ _ (returns-clause-answered g c is)
+returns-clause-one_text g c = λ is. first_also _ _ (λ disk now answers quiet. writes_one_text _ disk now answers quiet) _ _ (returns-clause-answered g c is)
