@@ -3,7 +3,9 @@ use Rattle.std.specs.Prelude.{◌≡◌, ℕ, ◌≤◌, List, [], ◌∷◌, �
 use Rattle.std.specs.Io.KnownBytes.{Appends}
 use Rattle.gor_disk.specs.Disk.{DiskView}
 use Rattle.gor_disk.specs.Disk as disk
+use Rattle.gor_disk.specs.declared.disk.Disk as disk_ghosts
 use Rattle.gor_outside.specs.Causes.{Rose}
+use Rattle.gor_outside.specs.declared.sink.Sink as sink_ghosts
 use Rattle.gor_finish.specs.Made.{Numbered}
 use Rattle.gor_hall.specs.declared.pass.Pass.{Pass}
 use Rattle.gor_hall.specs.Halls.{start_of}
@@ -17,13 +19,15 @@ use Rattle.gor_store.specs.Closings.{ClosesBy, only_last}
 use Rattle.gor_store.specs.LineParts.{ArePart}
 use Rattle.gor_store.specs.Phases.{RanPhase, lines_at}
 use Rattle.gor_store.specs.Sessions.{HaveServed}
-use Rattle.gor_store.specs.Shards.{HasClosed}
+use Rattle.gor_store.specs.Shards.{BeginsFrom, HasClosed}
 use Rattle.gor_store.specs.Stores.{events_of, others_of, passes_of}
 use Rattle.gor_store.specs.Stories.{AllFrom, count_all, served_in}
 use Rattle.gor_store.specs.Works.{HaveAdded, nothing}
 use Rattle.gor_store.specs.declared.store.Store.{Store}
+use Rattle.gor_run.specs.Dumps.{CallsFirst}
 use Rattle.gor_run.specs.Outputs.{AppendsUntil}
 use Rattle.gor_run.specs.Runs.{EndsWell, EndsStopped, EndsUnwritten, EndsInPart}
+use Rattle.gor_run.specs.declared.outcome.Outcome.{Outcome}
 use Rattle.gor_run.specs.declared.serving.PhaseFault.{PhaseFault}
 use Rattle.gor_run.specs.declared.serving.PhaseFault.TheVariants as fault
 use Rattle.gor_run.specs.declared.status.Status.{Status}
@@ -103,6 +107,12 @@ EndsBy tells view faults (status.DeviceFault shard) slots phases held written be
 EndsBy tells view faults status.WriteFault slots phases held written before after first now = EndsUnwritten tells view faults slots phases held written first now × Rose before after
 EndsBy tells view faults status.NoMemory slots phases held written before after first now = EndsInPart tells view faults slots phases held written first now × (after ≡ before)
 EndsBy tells view faults _ slots phases held written before after first now = ⊥
+
+-- that of the first disk and of the sink, whatever disk an open store began from; the others come back as they were
+abbrev pub EndsFrom : {K D : Type 0} → disk_ghosts.Ghosts D → sink_ghosts.Ghosts K → (sink grown : K) → Store D → List (List (List Line)) → Outcome D → Type 0
+EndsFrom {D = D} of_disk of_sink sink grown store phases outcome = (first : D) (slots : ℕ) → BeginsFrom 1 0 slots of_disk.tells (of_disk.view first) (of_disk.faults first) (start_of store.hall)
+    → CallsFirst (λ one now. EndsBy of_disk.tells of_disk.view of_disk.faults outcome.status slots phases (of_sink.held sink) (of_sink.held grown) (of_sink.faults sink) (of_sink.faults grown) one now)
+    (first ∷ others_of store) outcome.disks.items
 
 -- the status of a shard that was not opened
 abbrev pub unopened_status : ℕ → OpenFault → Status

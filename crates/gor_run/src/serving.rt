@@ -1,15 +1,10 @@
 //! A workload on an open store: its phases are answered and written, and the store ends.
-ghost use Rattle.std.specs.Prelude.{◌≡◌, ℕ, ◌+◌, ◌*◌, ◌^◌, ◌≤◌, ◌∷◌, length, map, flat_map, IfOk, OnErr};
-ghost use Rattle.std.specs.List.{AllByRecursion};
-ghost use Rattle.gor_hall.specs.Halls.{start_of};
+ghost use Rattle.std.specs.Prelude.{◌≡◌, ℕ, ◌+◌, ◌*◌, ◌^◌, ◌≤◌, map, flat_map, IfOk, OnErr};
 ghost use Rattle.gor_text.specs.Spelling.{answer_line};
 ghost use Rattle.gor_text.specs.Workloads.{phase_lines};
-ghost use Rattle.gor_store.specs.Lanes.{AreTaken};
 ghost use Rattle.gor_store.specs.Phases.{RanInPart};
-ghost use Rattle.gor_store.specs.Shards.{BeginsFrom};
-ghost use Rattle.gor_store.specs.Stores.{HasLeft, HasLeftFor, ClosingHasLeft, HasMadeNothing, IsAtRest, IsSameStore, events_of, lines_of_lanes, others_of, passes_of};
-ghost use Rattle.gor_run.specs.Dumps.{CallsFirst};
-ghost use Rattle.gor_run.specs.Serving.{AnswersPhase, EndsBy, HasEnded, HasWritten, status_by, unless_stopped as status_unless};
+ghost use Rattle.gor_store.specs.Stores.{HasLeft, HasLeftFor, ClosingHasLeft, HasMadeNothing, IsAtRest, IsSameStore, events_of, lines_of_lanes, passes_of};
+ghost use Rattle.gor_run.specs.Serving.{AnswersPhase, EndsFrom, HasEnded, HasWritten, status_by, unless_stopped as status_unless};
 ghost use Rattle.gor_run.specs.TakenLines.{AreTakenPhases, IsTakenPhase, lines_of_phases};
 
 use crate::outcome::Outcome;
@@ -151,7 +146,7 @@ pub fn serve<K: Sink, D: Disk + Send, P: Pause + Sync, R: AllocGlobal + Threads 
     requires left { HasLeft (2 ^ 40) store }
     requires taken { AreTakenPhases (map phase_lines phases.now) }
     requires few { lines_of_phases (map phase_lines phases.now) ≤ 16777217 }
-    ensures { (first : D) (slots : ℕ) → BeginsFrom 1 0 slots D.tells (D.view first) (D.faults first) (start_of store.hall) → CallsFirst (λ disk now. EndsBy D.tells D.view D.faults result.status slots (map phase_lines phases.now) (K.held sink.old) (K.held sink.new) (K.faults sink.old) (K.faults sink.new) disk now) (first ∷ others_of store) result.disks.items }
+    ensures { EndsFrom D.Disk K.Sink sink.old sink.new store (map phase_lines phases.now) result }
 {
     let mut store = store;
     let written = write_phases(rt, rt.alloc(), &mut store, sink, phases, pause);
