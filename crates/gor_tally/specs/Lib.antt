@@ -1,0 +1,3 @@
+pub mod Tallies
+pub mod Feeding
+pub mod Laws

@@ -1,0 +1,52 @@
+//! The tally that counts points.
+
+ghost use Rattle.std.specs.Prelude.{◌≡◌, [], ◌∷◌};
+ghost use Rattle.gor_tally.specs.declared.rule.Rule.TheVariants.{Count};
+ghost use Rattle.gor_tally.specs.Tallies.{Meaning};
+
+use crate::spelling::push_number;
+use crate::tally::Tally;
+use gor_model::{Bytes, Points};
+use std::alloc::{AllocError, Global};
+use std::marker::Model;
+
+/// How many points there were, at most 2^64 - 1. Contracts see the count.
+#[derive(Drop)]
+pub struct Counter {
+    count: u64,
+}
+
+impl Model for Counter {
+    ghost use Rattle.std.specs.Prelude.{ℕ, ◌<◌, ◌^◌};
+
+    ghost Value = { ℕ };
+
+    ghost view = { λ c. c.count };
+
+    ghost invariant = { λ c. c.count < 2 ^ 64 };
+}
+
+impl Counter {
+    /// No points. It takes no memory.
+    pub fn new() -> Counter
+        ensures { result ≡ 0 }
+    {
+        Counter { count: 0 }
+    }
+}
+
+impl Tally for Counter {
+    ghost meaning = { λ c. record { rule = Count; state = c ∷ [] } };
+
+    fn take(&mut self, points: &Points) -> Result<(), AllocError> {
+        self.count = self.count.saturating_add(points.len() as u64);
+        Ok(())
+    }
+
+    fn close(&self, alloc: Global) -> Result<Bytes, AllocError> {
+        let mut line = Vec::new(alloc);
+        line.extend_from_slice(b"count ")?;
+        push_number(&mut line, self.count)?;
+        Ok(Bytes::from_vec(line))
+    }
+}

@@ -1,0 +1,52 @@
+//! The tally of the least word.
+
+ghost use Rattle.std.specs.Prelude.{◌≡◌, None, option_to_list};
+ghost use Rattle.gor_tally.specs.declared.rule.Rule.TheVariants.{Least};
+ghost use Rattle.gor_tally.specs.Tallies.{Meaning};
+
+use crate::spelling::push_word_or_none;
+use crate::tally::Tally;
+use gor_model::{Bytes, Points};
+use std::alloc::{AllocError, Global};
+use std::marker::Model;
+
+/// The least word of the points so far. Contracts see it; `None` where there was no point.
+#[derive(Drop)]
+pub struct Lowest {
+    word: Option<u64>,
+}
+
+impl Model for Lowest {
+    ghost use Rattle.std.specs.Prelude.{ℕ, Option};
+
+    ghost Value = { Option ℕ };
+
+    ghost view = { λ t. t.word };
+}
+
+impl Lowest {
+    /// No points. It takes no memory.
+    pub fn new() -> Lowest
+        ensures { result ≡ None }
+    {
+        Lowest { word: None }
+    }
+}
+
+impl Tally for Lowest {
+    ghost meaning = { λ t. record { rule = Least; state = option_to_list t } };
+
+    fn take(&mut self, points: &Points) -> Result<(), AllocError> {
+        for point in points.as_slice() {
+            self.word = Some(self.word.map_or(point.word, |word| word.min(point.word)));
+        }
+        Ok(())
+    }
+
+    fn close(&self, alloc: Global) -> Result<Bytes, AllocError> {
+        let mut line = Vec::new(alloc);
+        line.extend_from_slice(b"least ")?;
+        push_word_or_none(&mut line, self.word)?;
+        Ok(Bytes::from_vec(line))
+    }
+}

@@ -1,0 +1,2 @@
+//! Tests of tallies: points and the texts that are wanted, as data.
+#![tactic(auto)]
