@@ -1,12 +1,12 @@
 -- What pages given to tallies come to.
-use Rattle.std.proofs.Common.{◌≡◌, ℕ, zero, suc, ◌+◌, ◌<◌, List, [], ◌∷◌, ◌++◌, length, map, set, take, drop, get_or, refl, ap, sym, ◌∙◌, arith}
+use Rattle.std.proofs.Common.{◌≡◌, ℕ, zero, suc, ◌+◌, ◌-◌, ◌*◌, ◌<◌, List, [], ◌∷◌, ◌++◌, length, map, set, take, drop, get_or, refl, ap, sym, subst, ◌∙◌, arith}
 use Rattle.gor_model.specs.declared.point.Point.{Point}
 use Rattle.gor_tally.specs.Tallies.{Meaning, stepped}
-use Rattle.gor_tally.specs.Feeding.{given_to}
-use Rattle.std.specs.Prelude.{OnErr}
+use Rattle.gor_tally.specs.Feeding.{given_to, IsGivenInPart, IsFedInPart}
+use Rattle.std.specs.Prelude.{min, OnErr}
 use Rattle.std.proofs.Common.{Result, Ok, Err}
-use Rattle.std.proofs.lemmas.List.{get_or-map, map-set, length-map}
-use Rattle.std.proofs.Math.Seq.{map-set_same}
+use Rattle.std.proofs.lemmas.List.{get_or-map, map-set, length-map, length-take, length-drop, take_all}
+use Rattle.std.proofs.Math.Seq.{map-set_same, take-add}
 use Rattle.gor_tally.proofs.StepLaws.{step-append}
 
 -- what holds anyway
@@ -69,3 +69,66 @@ shown-count f bs before k points so_far = sym (length-map bs f) ∙ ap length so
 pub shown-all : {B : Type 0} (f : B → Meaning) (bs before : List B) (k : ℕ) (points : List Point)
     → map f bs ≡ given_to k points (map f before) → length before ≡ k → map f bs ≡ map (stepped points) (map f before)
 shown-all f bs before k points so_far all = so_far ∙ ap (λ (n : ℕ). given_to n points (map f before)) (sym all ∙ sym (length-map before f)) ∙ given-all points (map f before)
+
+-- so many points, in whole pages but for the last one, are fed
+pub record FedSoFar (page : ℕ) (points : List Point) (fed : ℕ) (before now : List Meaning) : Type 0 where
+  pub pages : ℕ
+  pub at : fed ≡ min (pages * page) (length points)
+  pub took : now ≡ map (stepped (take fed points)) before
+
+pub stepped-none : (ms : List Meaning) → ms ≡ map (stepped []) ms
+stepped-none [] = refl
+stepped-none (m ∷ ms) = ap (λ (rest : List Meaning). m ∷ rest) (stepped-none ms)
+
+pub none_fed : (page : ℕ) (points : List Point) (ms : List Meaning) → FedSoFar page points 0 ms ms
+none_fed page points ms = record { pages = 0; at = omega arith; took = stepped-none ms }
+
+take_len : (n : ℕ) (ps : List Point) → take (length (take n ps)) ps ≡ take n ps
+take_len zero ps = refl
+take_len (suc n) [] = refl
+take_len (suc n) (p ∷ ps) = ap (λ (rest : List Point). p ∷ rest) (take_len n ps)
+
+one_more_page : (pages page : ℕ) → (pages + 1) * page ≡ pages * page + page
+one_more_page pages page = grind arith
+
+-- the next page, of which all were given
+pub page_fed : (page fed count : ℕ) (points next : List Point) (before now after : List Meaning) → FedSoFar page points fed before now → fed < length points
+    → next ≡ take page (drop fed points) → after ≡ map (stepped next) now → count ≡ length next → FedSoFar page points (fed + count) before after
+page_fed page fed count points next before now after so_far more next_is given counted =
+    subst (λ (n : ℕ). FedSoFar page points (fed + n) before after) (sym counted) (
+    let whole : fed ≡ so_far.pages * page = omega (arith, so_far.at, more) in
+    let len : length next ≡ min page (length points - fed) = ap length next_is ∙ length-take page (drop fed points) ∙ ap (λ (n : ℕ). min page n) (length-drop fed points) in
+    let both : take fed points ++ next ≡ take (fed + length next) points =
+            ap (λ (ps : List Point). take fed points ++ ps) (next_is ∙ sym (take_len page (drop fed points)) ∙ ap (λ (n : ℕ). take n (drop fed points)) (ap length (sym next_is))) ∙ sym (take-add fed (length next) points) in
+    record
+      { pages = so_far.pages + 1
+      ; at = omega (arith, one_more_page so_far.pages page, whole, len, more)
+      ; took = given ∙ ap (map (stepped next)) so_far.took ∙ map_stepped-append (take fed points) next before ∙ ap (λ (ps : List Point). map (stepped ps) before) both
+      })
+
+-- all points are fed
+pub all_fed : (page fed : ℕ) (points : List Point) (before now : List Meaning) → FedSoFar page points fed before now → (fed < length points → ⊥) → now ≡ map (stepped points) before
+all_fed page fed points before now so_far none =
+    so_far.took ∙ ap (λ (ps : List Point). map (stepped ps) before) (take_all fed points (omega (arith, none)))
+
+-- no page more was given
+pub fed_no_more : (page fed : ℕ) (points all : List Point) (before now : List Meaning) → FedSoFar page points fed before now → fed < length points → points ≡ all → IsFedInPart page all before now
+fed_no_more page fed points all before now so_far more same =
+    subst (λ (ps : List Point). IsFedInPart page ps before now) same (
+    let whole : fed ≡ so_far.pages * page = omega (arith, so_far.at, more) in
+    record { pages = so_far.pages; more = 0; fed = so_far.took ∙ ap (λ (n : ℕ). map (stepped (take n points)) before) whole })
+
+-- some first tallies were given one page more
+pub fed_in_part : (page fed : ℕ) (points all next : List Point) (before now after : List Meaning) → FedSoFar page points fed before now → fed < length points
+    → next ≡ take page (drop fed points) → IsGivenInPart next now after → points ≡ all → IsFedInPart page all before after
+fed_in_part page fed points all next before now after so_far more next_is given same =
+    subst (λ (ps : List Point). IsFedInPart page ps before after) same (
+    let whole : fed ≡ so_far.pages * page = omega (arith, so_far.at, more) in
+    let both : take fed points ++ next ≡ take (fed + page) points = ap (λ (ps : List Point). take fed points ++ ps) next_is ∙ sym (take-add fed page points) in
+    record
+      { pages = so_far.pages
+      ; more = given.0
+      ; fed = given.1 ∙ ap (given_to given.0 next) so_far.took ∙ given-stepped given.0 (take fed points) next before
+        ∙ ap (λ (ps : List Point). map (stepped ps) (take given.0 before) ++ map (stepped (take fed points)) (drop given.0 before)) both
+        ∙ ap (λ (n : ℕ). map (stepped (take (n + page) points)) (take given.0 before) ++ map (stepped (take n points)) (drop given.0 before)) whole
+      })

@@ -65,7 +65,14 @@ pub fn close_all(alloc: Global, tallies: Vec<Box<dyn Tally>>) -> Result<Vec<Byte
 {
     let mut lines = Vec::with_capacity(alloc, tallies.len())?;
     for tally in &tallies {
-        lines.push(tally.close(alloc)?)?;
+        lines.push(close_one(alloc, tally)?)?;
     }
     Ok(lines)
+}
+
+/// The text of one tally.
+fn close_one(alloc: Global, tally: &Box<dyn Tally>) -> Result<Bytes, AllocError>
+    ensures { IfOk result (λ line. line ≡ text (meaning tally.now).rule (meaning tally.now).state) }
+{
+    tally.close(alloc)
 }

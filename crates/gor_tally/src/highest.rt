@@ -1,12 +1,12 @@
 //! The tally of the greatest word.
 
-ghost use Rattle.std.specs.Prelude.{◌≡◌, None, option_to_list};
+ghost use Rattle.std.specs.Prelude.{◌≡◌, Some, None, option_to_list};
 ghost use Rattle.gor_tally.specs.declared.rule.Rule.TheVariants.{Greatest};
-ghost use Rattle.gor_tally.specs.Tallies.{Meaning};
+ghost use Rattle.gor_tally.specs.Tallies.{Meaning, with_point};
 
 use crate::spelling::push_word_or_none;
 use crate::tally::Tally;
-use gor_model::{Bytes, Points};
+use gor_model::{Bytes, Point, Points};
 use std::alloc::{AllocError, Global};
 use std::marker::Model;
 
@@ -33,12 +33,19 @@ impl Highest {
     }
 }
 
+/// The greater one of the word so far, if there is one, and that of a point.
+fn greater_of(former: Option<u64>, point: Point) -> u64
+    ensures { option_to_list (Some result) ≡ with_point Greatest (option_to_list former) point }
+{
+    former.map_or(point.word, |word| word.max(point.word))
+}
+
 impl Tally for Highest {
     ghost meaning = { λ t. record { rule = Greatest; state = option_to_list t } };
 
     fn take(&mut self, points: &Points) -> Result<(), AllocError> {
         for point in points.as_slice() {
-            self.word = Some(self.word.map_or(point.word, |word| word.max(point.word)));
+            self.word = Some(greater_of(self.word, *point));
         }
         Ok(())
     }

@@ -1,12 +1,12 @@
 //! The tally of the least word.
 
-ghost use Rattle.std.specs.Prelude.{◌≡◌, None, option_to_list};
+ghost use Rattle.std.specs.Prelude.{◌≡◌, Some, None, option_to_list};
 ghost use Rattle.gor_tally.specs.declared.rule.Rule.TheVariants.{Least};
-ghost use Rattle.gor_tally.specs.Tallies.{Meaning};
+ghost use Rattle.gor_tally.specs.Tallies.{Meaning, with_point};
 
 use crate::spelling::push_word_or_none;
 use crate::tally::Tally;
-use gor_model::{Bytes, Points};
+use gor_model::{Bytes, Point, Points};
 use std::alloc::{AllocError, Global};
 use std::marker::Model;
 
@@ -33,12 +33,19 @@ impl Lowest {
     }
 }
 
+/// The lesser one of the word so far, if there is one, and that of a point.
+fn lesser_of(former: Option<u64>, point: Point) -> u64
+    ensures { option_to_list (Some result) ≡ with_point Least (option_to_list former) point }
+{
+    former.map_or(point.word, |word| word.min(point.word))
+}
+
 impl Tally for Lowest {
     ghost meaning = { λ t. record { rule = Least; state = option_to_list t } };
 
     fn take(&mut self, points: &Points) -> Result<(), AllocError> {
         for point in points.as_slice() {
-            self.word = Some(self.word.map_or(point.word, |word| word.min(point.word)));
+            self.word = Some(lesser_of(self.word, *point));
         }
         Ok(())
     }
