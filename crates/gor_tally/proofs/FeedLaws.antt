@@ -106,11 +106,6 @@ page_fed page fed count points next before now after so_far more next_is given c
       ; took = given ∙ ap (map (stepped next)) so_far.took ∙ map_stepped-append (take fed points) next before ∙ ap (λ (ps : List Point). map (stepped ps) before) both
       })
 
--- all points are fed
-pub all_fed : (page fed : ℕ) (points : List Point) (before now : List Meaning) → FedSoFar page points fed before now → (fed < length points → ⊥) → now ≡ map (stepped points) before
-all_fed page fed points before now so_far none =
-    so_far.took ∙ ap (λ (ps : List Point). map (stepped ps) before) (take_all fed points (omega (arith, none)))
-
 -- no page more was given
 pub fed_no_more : (page fed : ℕ) (points all : List Point) (before now : List Meaning) → FedSoFar page points fed before now → fed < length points → points ≡ all → IsFedInPart page all before now
 fed_no_more page fed points all before now so_far more same =

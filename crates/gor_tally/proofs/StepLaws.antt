@@ -27,6 +27,9 @@ counts_points n (p ∷ points) few =
     let len : length (p ∷ points) ≡ 1 + length points = omega arith in
     counts_points (min (n + 1) (2 ^ 64 - 1)) points next ∙ ap (λ (m : ℕ). m ∷ []) (one_more n (length points) ∙ ap (λ (k : ℕ). min (n + k) (2 ^ 64 - 1)) (sym len))
 
+pub counts_on : (n count : ℕ) (points : List Point) → n < 2 ^ 64 → count ≡ min (n + length points) (2 ^ 64 - 1) → count ∷ [] ≡ step Count (n ∷ []) points
+counts_on n count points few counted = ap (λ (m : ℕ). m ∷ []) counted ∙ sym (counts_points n points few)
+
 -- the next point of a list is taken
 pub step_more : (rule : Rule) (from now next : List ℕ) (points : List Point) (i : ℕ) (d : Point) → now ≡ step rule from (take i points) → next ≡ with_point rule now (get_or points i d)
     → i < length points → next ≡ step rule from (take (i + 1) points)

@@ -1,6 +1,6 @@
 //! The tally that counts points.
 
-ghost use Rattle.std.specs.Prelude.{◌≡◌, [], ◌∷◌};
+ghost use Rattle.std.specs.Prelude.{◌≡◌, ◌+◌, ◌-◌, ◌^◌, min, [], ◌∷◌};
 ghost use Rattle.gor_tally.specs.declared.rule.Rule.TheVariants.{Count};
 ghost use Rattle.gor_tally.specs.Tallies.{Meaning};
 
@@ -35,11 +35,18 @@ impl Counter {
     }
 }
 
+/// The count with so many points more. It stands still at its end.
+fn with_more(former: u64, more: usize) -> u64
+    ensures { result ≡ min (former + more) (2 ^ 64 - 1) }
+{
+    former.saturating_add(more as u64)
+}
+
 impl Tally for Counter {
     ghost meaning = { λ c. record { rule = Count; state = c ∷ [] } };
 
     fn take(&mut self, points: &Points) -> Result<(), AllocError> {
-        self.count = self.count.saturating_add(points.len() as u64);
+        self.count = with_more(self.count, points.len());
         Ok(())
     }
 

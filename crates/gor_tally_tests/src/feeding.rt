@@ -128,7 +128,7 @@ fn tallies_say(
     }
     feed_lists(alloc, lists, page, &mut tallies)?;
     let texts = close_all(alloc, tallies)?;
-    Ok(texts.len() == 4 * times && are(&texts, wanted))
+    Ok(texts.len() / 4 == times && are(&texts, wanted))
 }
 
 /// Whether four tallies, and sixteen, say what is wanted, whatever the page.
