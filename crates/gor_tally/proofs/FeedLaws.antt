@@ -5,7 +5,7 @@ use Rattle.gor_tally.specs.Tallies.{Meaning, stepped}
 use Rattle.gor_tally.specs.Feeding.{given_to, IsGivenInPart, IsFedInPart}
 use Rattle.std.specs.Prelude.{min, OnErr}
 use Rattle.std.proofs.Common.{Result, Ok, Err}
-use Rattle.std.proofs.lemmas.List.{get_or-map, map-set, length-map, length-take, length-drop, take_all}
+use Rattle.std.proofs.lemmas.List.{get_or-map, map-set, length-map, length-take, length-drop}
 use Rattle.std.proofs.Math.Seq.{map-set_same, take-add}
 use Rattle.gor_tally.proofs.StepLaws.{step-append}
 
@@ -99,12 +99,12 @@ page_fed page fed count points next before now after so_far more next_is given c
     let whole : fed ≡ so_far.pages * page = omega (arith, so_far.at, more) in
     let len : length next ≡ min page (length points - fed) = ap length next_is ∙ length-take page (drop fed points) ∙ ap (λ (n : ℕ). min page n) (length-drop fed points) in
     let both : take fed points ++ next ≡ take (fed + length next) points =
-            ap (λ (ps : List Point). take fed points ++ ps) (next_is ∙ sym (take_len page (drop fed points)) ∙ ap (λ (n : ℕ). take n (drop fed points)) (ap length (sym next_is))) ∙ sym (take-add fed (length next) points) in
-    record
-      { pages = so_far.pages + 1
-      ; at = omega (arith, one_more_page so_far.pages page, whole, len, more)
-      ; took = given ∙ ap (map (stepped next)) so_far.took ∙ map_stepped-append (take fed points) next before ∙ ap (λ (ps : List Point). map (stepped ps) before) both
-      })
+    ap (λ (ps : List Point). take fed points ++ ps) (next_is ∙ sym (take_len page (drop fed points)) ∙ ap (λ (n : ℕ). take n (drop fed points)) (ap length (sym next_is))) ∙ sym (take-add fed (length next) points) in
+    record {
+      pages = so_far.pages + 1;
+      at = omega (arith, one_more_page so_far.pages page, whole, len, more);
+      took = given ∙ ap (map (stepped next)) so_far.took ∙ map_stepped-append (take fed points) next before ∙ ap (λ (ps : List Point). map (stepped ps) before) both;
+    })
 
 -- no page more was given
 pub fed_no_more : (page fed : ℕ) (points all : List Point) (before now : List Meaning) → FedSoFar page points fed before now → fed < length points → points ≡ all → IsFedInPart page all before now
@@ -120,10 +120,10 @@ fed_in_part page fed points all next before now after so_far more next_is given 
     subst (λ (ps : List Point). IsFedInPart page ps before after) same (
     let whole : fed ≡ so_far.pages * page = omega (arith, so_far.at, more) in
     let both : take fed points ++ next ≡ take (fed + page) points = ap (λ (ps : List Point). take fed points ++ ps) next_is ∙ sym (take-add fed page points) in
-    record
-      { pages = so_far.pages
-      ; more = given.0
-      ; fed = given.1 ∙ ap (given_to given.0 next) so_far.took ∙ given-stepped given.0 (take fed points) next before
-        ∙ ap (λ (ps : List Point). map (stepped ps) (take given.0 before) ++ map (stepped (take fed points)) (drop given.0 before)) both
-        ∙ ap (λ (n : ℕ). map (stepped (take (n + page) points)) (take given.0 before) ++ map (stepped (take n points)) (drop given.0 before)) whole
-      })
+    record {
+      pages = so_far.pages;
+      more = given.0;
+      fed = given.1 ∙ ap (given_to given.0 next) so_far.took ∙ given-stepped given.0 (take fed points) next before
+          ∙ ap (λ (ps : List Point). map (stepped ps) (take given.0 before) ++ map (stepped (take fed points)) (drop given.0 before)) both
+          ∙ ap (λ (n : ℕ). map (stepped (take (n + page) points)) (take given.0 before) ++ map (stepped (take n points)) (drop given.0 before)) whole;
+    })

@@ -12,7 +12,12 @@ use std::alloc::{AllocError, Global};
 ///
 /// After want of memory each tally took some first pages of the points, and some first tallies one page more. A page is copied
 /// once, whatever the count of tallies, and let go before the next one.
-pub fn feed(alloc: Global, points: &Points, page: usize, tallies: &mut Vec<Box<dyn Tally>>) -> Result<(), AllocError>
+pub fn feed(
+    alloc: Global,
+    points: &Points,
+    page: usize,
+    tallies: &mut Vec<Box<dyn Tally>>,
+) -> Result<(), AllocError>
     requires { 1 ≤ page }
     ensures ok { OnOk result (map (λ b. meaning b) tallies.new.items ≡ map (stepped points.now) (map (λ b. meaning b) tallies.old.items)) }
     ensures err { OnErr result (IsFedInPart page points.now (map (λ b. meaning b) tallies.old.items) (map (λ b. meaning b) tallies.new.items)) }

@@ -1,6 +1,6 @@
 -- So many tallies are written.
 use Rattle.std.proofs.Common.{◌≡◌, map, take}
-use Rattle.gor_tally.specs.Tallies.{Meaning, text}
+use Rattle.gor_tally.specs.Tallies.{text}
 use Rattle.gor_tally.proofs.feeding.close_all.Given as goal
 
 abbrev pub invariant-loop-tally : goal.invariant-loop-tally

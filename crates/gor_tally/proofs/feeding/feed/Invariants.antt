@@ -1,5 +1,5 @@
 -- So many pages are fed.
-use Rattle.std.proofs.Common.{◌≡◌, ◌-◌, map, length}
+use Rattle.std.proofs.Common.{◌-◌, map, length}
 use Rattle.gor_tally.proofs.FeedLaws.{FedSoFar}
 use Rattle.gor_tally.proofs.feeding.feed.Given as goal
 
