@@ -105,10 +105,13 @@ fn feed_lists(
 
 /// Whether these are the wanted texts, over and over.
 pub(crate) fn are(texts: &[Bytes], wanted: &[&str]) -> bool {
-    texts
-        .iter()
-        .map(Bytes::as_slice)
-        .eq(wanted.iter().cycle().take(texts.len()).map(|text| text.as_bytes()))
+    texts.iter().map(Bytes::as_slice).eq(
+        wanted
+            .iter()
+            .cycle()
+            .take(texts.len())
+            .map(|text| text.as_bytes()),
+    )
 }
 
 /// Whether so many times four tallies say what is wanted.

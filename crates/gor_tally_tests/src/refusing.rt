@@ -34,18 +34,8 @@ const POINTS: [Given; 7] = [(1, 9), (2, 8), (3, 7), (4, 6), (5, 5), (6, 4), (7, 
 
 /// A page, the pages that the second of three tallies takes, whether memory is wanting, and the texts of the three.
 const CASES: [(usize, u32, bool, [&str; 3]); 5] = [
-    (
-        3,
-        1,
-        true,
-        ["count 6", "count 3", "least 0000000000000007"],
-    ),
-    (
-        2,
-        1,
-        true,
-        ["count 4", "count 2", "least 0000000000000008"],
-    ),
+    (3, 1, true, ["count 6", "count 3", "least 0000000000000007"]),
+    (2, 1, true, ["count 4", "count 2", "least 0000000000000008"]),
     (2, 0, true, ["count 2", "count 0", "least none"]),
     (
         3,
@@ -53,12 +43,7 @@ const CASES: [(usize, u32, bool, [&str; 3]); 5] = [
         false,
         ["count 7", "count 7", "least 0000000000000003"],
     ),
-    (
-        3,
-        2,
-        true,
-        ["count 7", "count 6", "least 0000000000000004"],
-    ),
+    (3, 2, true, ["count 7", "count 6", "least 0000000000000004"]),
 ];
 
 /// Whether three tallies, of which the second one takes so many pages, say what is wanted.
@@ -87,7 +72,10 @@ fn three_say(
 fn some_first_pages_stay(rt: HostRuntime) -> Result<(), Fail> {
     let points = points_of(rt.alloc(), &POINTS)?;
     for (page, pages, refused, wanted) in CASES {
-        assert!(rt; three_say(rt.alloc(), &points, page, pages, refused, &wanted)?, "a page of {page}, refused after {pages}");
+        assert!(rt;
+            three_say(rt.alloc(), &points, page, pages, refused, &wanted)?,
+            "a page of {page}, refused after {pages}"
+        );
     }
     Ok(())
 }
