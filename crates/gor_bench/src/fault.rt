@@ -1,3 +1,4 @@
+//! Why a measurement ends early.
 use std::alloc::{AllocError, AllocFailed};
 use thiserror::Error;
 

@@ -1,3 +1,4 @@
+//! The parts that can be measured, by their words.
 use crate::fault::Fault;
 use crate::report::Report;
 use crate::{blocks, cell, codes, recovery, shard, store, table};

@@ -1,3 +1,4 @@
+//! A list of bits with room for more.
 ghost use Rattle.std.specs.Prelude.{◌≡◌, ℕ, ◌+◌, ◌-◌, ◌*◌, ◌^◌, ◌<◌, ◌≤◌, ◌↔◌, ◌++◌, [], max, length, take, vec_len, IsTrue, IsOk, IfOk, IfNone, IfSome, OnOk, OnErr};
 ghost use Rattle.gor_bits.specs.BitString.{BitString};
 ghost use Rattle.gor_bits.specs.Spelled.{spelled, bits_of, overwritten, Stands, IsPacked};

@@ -1,4 +1,4 @@
-// Bits in a list of bytes, the most significant bit of each byte first.
+//! Bits in a list of bytes, the most significant bit of each byte first.
 ghost use Rattle.std.specs.Prelude.{◌≡◌, ℕ, ◌+◌, ◌-◌, ◌*◌, ◌/◌, ◌%◌, ◌^◌, ◌<◌, ◌≤◌, ◌++◌, length, take, drop, replicate, false, vec_capacity};
 ghost use Rattle.gor_bits.specs.Spelled.{spelled, bits_of, overwritten, Stands, IsPacked};
 

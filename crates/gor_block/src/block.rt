@@ -1,3 +1,4 @@
+//! A block: the points of one series in one window, in order, as bits.
 ghost use Rattle.std.specs.Prelude.{◌≡◌, ℕ, ◌+◌, ◌-◌, ◌<◌, ◌≤◌, ◌++◌, [], ◌∷◌, max, length, reverse, IsOk, IfOk, IfErr, OnOk, OnErr};
 ghost use Rattle.gor_model.specs.Windows.{last_window};
 ghost use Rattle.gor_block.specs.Decoded.{decoded, IsRead};

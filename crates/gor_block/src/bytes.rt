@@ -1,4 +1,4 @@
-// A block's bytes: its window, its count and its bits, with zero bits up to a whole byte.
+//! A block's bytes: its window, its count and its bits, with zero bits up to a whole byte.
 ghost use Rattle.std.specs.Prelude.{◌≡◌, ℕ, ◌+◌, ◌-◌, ◌*◌, ◌^◌, ◌<◌, ◌≤◌, ◌++◌, [], ◌∷◌, length, take, drop, replicate, false, OnOk, IsOk, IfOk, IfErr};
 ghost use Rattle.std.specs.Int.{w32, to_be_bytes};
 ghost use Rattle.gor_model.specs.Fields.{number_in};

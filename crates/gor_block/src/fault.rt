@@ -1,3 +1,4 @@
+//! Why bytes are no block.
 ghost use Rattle.std.specs.Prelude.{◌≡◌};
 ghost use Rattle.gor_block.specs.declared.fault.BlockFault.TheVariants.{NoMemory};
 ghost use Rattle.gor_block.specs.Marks.{of_time, of_word};

@@ -1,3 +1,4 @@
+//! What codes and bytes of blocks determine.
 ghost use Rattle.gor_block.specs.Laws.{PointsGiveBits, BitsGivePoints, BlocksGiveBytes, BytesGiveBlocks};
 
 /// What codes and bytes of blocks determine, as clauses: the points their bits; the unit, the window, the count and the bits

@@ -1,4 +1,4 @@
-// The points of some bits, one after another.
+//! The points of some bits, one after another.
 ghost use Rattle.std.specs.Prelude.{◌≡◌, ℕ, ◌+◌, ◌≤◌, reverse, IsOk, IfOk, IfErr};
 ghost use Rattle.gor_block.specs.Decoded.{decoded, IsWhole, IsRead};
 ghost use Rattle.gor_block.specs.Faults.{IsNoCode};

@@ -1,4 +1,4 @@
-// What the points of a block so far leave for the next one.
+//! What the points of a block so far leave for the next one.
 ghost use Rattle.std.specs.Prelude.{◌≡◌, ℕ, ◌+◌, ◌-◌, ◌^◌, ◌<◌, ◌≤◌, ◌++◌, length, drop, true, IfOk, IfErr, IsOkAnd};
 ghost use Rattle.gor_bits.specs.BitString.{BitString};
 ghost use Rattle.gor_model.specs.declared.point.Point.{Point};

@@ -1,4 +1,4 @@
-// What is done to lists of blocks: those of `later` in a cell, and those that stand in the places of its ring.
+//! What is done to lists of blocks: those of `later` in a cell, and those that stand in the places of its ring.
 ghost use Rattle.std.specs.Prelude.{◌≡◌, ◌+◌, ◌-◌, ◌≤◌, ◌<◌, ℕ, [], ◌∷◌, ◌++◌, length, take, drop, IfSome, IfOk, OnOk, OnErr, Some, None, false};
 ghost use Rattle.gor_model.specs.Windows.{window as window_at, greatest_time, last_window, store_unit};
 ghost use Rattle.gor_model.specs.PlainMap.{last_of};

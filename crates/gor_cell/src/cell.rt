@@ -1,3 +1,4 @@
+//! A slot's cell: vacant, or one live series.
 ghost use Rattle.std.specs.Prelude.{◌≡◌, ◌≤◌, ◌<◌, ℕ, IsSome, IsSomeAnd, IfSome, is_some, IfOk, OnOk, OnErr, Some, None};
 ghost use Rattle.gor_model.specs.Windows.{window_end, greatest_time};
 ghost use Rattle.gor_model.specs.Shares.{JournalShare};

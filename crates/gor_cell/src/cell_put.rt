@@ -1,3 +1,4 @@
+//! What a put is answered by a series.
 /// What a put is answered: the first that holds.
 #[derive(Clone, Copy, Debug, PartialEq, Eq)]
 pub enum CellPut {

@@ -1,3 +1,4 @@
+//! The blocks that a read takes along, to be decoded once the series is given back.
 ghost use Rattle.std.specs.Prelude.{◌≡◌, ◌++◌, filter, OnOk, OnErr, IfOk};
 ghost use Rattle.gor_model.specs.Windows.{kept};
 ghost use Rattle.gor_model.specs.Answers.{in_range};

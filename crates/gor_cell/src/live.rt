@@ -1,3 +1,4 @@
+//! A live series: its name, its floor and its blocks.
 ghost use Rattle.std.specs.Prelude.{◌≡◌, ◌≤◌, ◌<◌, ℕ, IfOk, OnOk, OnErr, Some, []};
 ghost use Rattle.gor_model.specs.Windows.{window_end, greatest_time};
 ghost use Rattle.gor_cell.specs.Blocks.{AddsCopies, chosen};

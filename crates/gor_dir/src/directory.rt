@@ -1,3 +1,4 @@
+//! The directory of a shard: which series it has, and which slots are free.
 ghost use Rattle.std.specs.Prelude.{◌≡◌, ◌≤◌, ◌<◌, [], map, length, option_map, slice_get, slice_index, max, IsSome, None, Some, IfOk, OnOk, OnErr};
 ghost use Rattle.gor_model.specs.Lists.{EachBefore};
 ghost use Rattle.gor_model.specs.Names.{key_of};

@@ -1,3 +1,4 @@
+//! The free slots of a directory.
 ghost use Rattle.std.specs.Prelude.{◌≡◌, ◌≤◌, ◌<◌, ◌∷◌, length, filter, nat_eq, slice_get, slice_index, IfOk, IfSome, IfNone};
 ghost use Rattle.std.specs.List.{IsDistinct, range_with_len};
 ghost use Rattle.gor_dir.specs.Pools.{is_apart};

@@ -1,3 +1,4 @@
+//! A row of a directory, as it is handed in when a shard is restored.
 use gor_name::Name;
 
 /// A series of a directory.

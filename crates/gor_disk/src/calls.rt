@@ -1,4 +1,4 @@
-// What was asked of a disk.
+//! What was asked of a disk.
 use crate::FileId;
 
 /// Which of the five calls of a disk.

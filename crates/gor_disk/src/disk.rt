@@ -1,4 +1,4 @@
-// The trait, with the model of a disk in its clauses.
+//! The trait, with the model of a disk in its clauses.
 ghost use Rattle.std.specs.Prelude.{◌≡◌, ◌+◌, ◌^◌, ◌<◌, ◌≤◌, ℕ, Bool, IsTrue, List, length, take, drop, IfOk, OnOk};
 ghost use Rattle.gor_disk.specs.Disk.{DiskView, IsImage, held_now, wrote, shortened, overwritten, Makes, Looks, Syncs, CountsOn, CountsFault};
 ghost use Rattle.gor_disk.specs.declared.disk.FileId.{FileId as Name};

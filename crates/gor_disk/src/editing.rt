@@ -1,4 +1,4 @@
-// Writing into bytes.
+//! Writing into bytes.
 ghost use Rattle.std.specs.Prelude.{◌≡◌, ◌+◌, ◌^◌, ◌<◌, ◌≤◌, ◌++◌, length, vec_len, vec_capacity, IfOk, OnOk, OnErr};
 ghost use Rattle.gor_disk.specs.Disk.{overwritten};
 

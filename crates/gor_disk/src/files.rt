@@ -1,4 +1,4 @@
-// Files in memory, by their names.
+//! Files in memory, by their names.
 ghost use Rattle.std.specs.Prelude.{◌≡◌, ◌≢◌, ◌+◌, ◌^◌, ◌≤◌, ◌<◌, length, take, OnOk, OnErr, IfOk};
 ghost use Rattle.gor_disk.specs.Names.{same_file};
 ghost use Rattle.gor_disk.specs.Memory.{contents, place};

@@ -1,4 +1,4 @@
-// What a crash may leave of files in memory.
+//! What a crash may leave of files in memory.
 ghost use Rattle.std.specs.Prelude.{◌≡◌, ◌≢◌, ℕ, ◌+◌, ◌^◌, ◌<◌, ◌≤◌, length, slice_index, IfOk, OnOk};
 ghost use Rattle.gor_disk.specs.Memory.{contents, effect, held_after};
 ghost use Rattle.gor_disk.specs.Disk.{Held, IsImage, settled, shortened, wrote};

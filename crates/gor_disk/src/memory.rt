@@ -1,4 +1,4 @@
-// A disk in memory: what it held at first, what it holds, and each call with the bytes that its images need.
+//! A disk in memory: what it held at first, what it holds, and each call with the bytes that its images need.
 ghost use Rattle.std.specs.Prelude.{◌≡◌, ◌≢◌, ◌+◌, ◌-◌, ◌^◌, ◌<◌, ◌≤◌, [], ◌∷◌, ◌++◌, length, take, drop, min, vec_len, vec_capacity, is_err, OnOk, OnErr, IfOk};
 ghost use Rattle.gor_disk.specs.Memory.{contents, memory_view, fault_count, IsLook};
 ghost use Rattle.gor_disk.specs.Disk.{IsImage, IsImageAt, NothingPending, Looks, CountsOn, CountsFault, held_now, overwritten, settled};

@@ -1,4 +1,4 @@
-// How a crash tears a call.
+//! How a crash tears a call.
 ghost use Rattle.std.specs.Prelude.{◌≡◌, ◌≤◌};
 
 /// A part of some bytes.

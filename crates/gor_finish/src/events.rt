@@ -1,4 +1,4 @@
-// The events of a flush, as values that a mark is given.
+//! The events of a flush, as values that a mark is given.
 ghost use Rattle.gor_finish.specs.Flushes.{take_made, take_refused, done_made, stop_made};
 
 use gor_disk::Disk;

@@ -1,4 +1,4 @@
-// The device and the journal of a shard under their locks.
+//! The device and the journal of a shard under their locks.
 ghost use Rattle.std.specs.Prelude.{◌≡◌, [], ◌∷◌};
 ghost use Rattle.gor_hall.specs.Calls.{StaysPass};
 ghost use Rattle.gor_hall.specs.Halls.{IsPassOf};

@@ -1,3 +1,4 @@
+//! What a flush answers.
 /// What a flush did. The numbers are those of its events in the shard's one history.
 #[derive(Clone, Copy, Debug, PartialEq, Eq)]
 pub enum FlushReply {

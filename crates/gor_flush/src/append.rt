@@ -1,4 +1,4 @@
-// What a flush writes: the key records, and then the batch.
+//! What a flush writes: the key records, and then the batch.
 ghost use Rattle.std.specs.Prelude.{◌≡◌, ◌≢◌, ◌≤◌, [], Ok, IsTrue, OnOk, vec_capacity, vec_len};
 ghost use Rattle.gor_disk.specs.Disk.{CountsFault, Runs, Touches};
 ghost use Rattle.gor_gate.specs.Gates.{gates};

@@ -1,4 +1,4 @@
-// A fresh store.
+//! A fresh store.
 ghost use Rattle.std.specs.Prelude.{◌≡◌, [], ◌∷◌, true, Ok, IsTrue, IfOk, IfErr, OnOk};
 ghost use Rattle.gor_disk.specs.declared.disk.FileId.TheVariants.{Marks, Keys, Log};
 ghost use Rattle.gor_disk.specs.Disk.{NothingPending, CountsFault};

@@ -1,3 +1,4 @@
+//! The device of a shard: its disk and the files that it writes on.
 use crate::files::CurrentFiles;
 use crate::preparing::Prepared;
 use gor_disk::Disk;

@@ -1,3 +1,4 @@
+//! Files that the last mark replaces are cut to nothing.
 ghost use Rattle.std.specs.Prelude.{None, IfSome, ◌≡◌, ◌≤◌, ◌<◌, ◌++◌, [], ◌∷◌, ℕ, true, IsTrue, OnOk, ⊤};
 ghost use Rattle.gor_disk.specs.declared.disk.FileId.{FileId as Name};
 ghost use Rattle.gor_disk.specs.Disk.{Touches, CountsFault};

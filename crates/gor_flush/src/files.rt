@@ -1,4 +1,4 @@
-// The files of a store that are appended to.
+//! The files of a store that are appended to.
 ghost use Rattle.std.specs.Prelude.{◌≡◌, ◌≢◌, ℕ, true, IsTrue, IfOk, IfErr, OnOk};
 ghost use Rattle.gor_disk.specs.declared.disk.FileId.TheVariants.{Marks};
 ghost use Rattle.gor_disk.specs.Disk.{IsSettled, NothingPending, Runs, Touches, CountsFault};

@@ -1,3 +1,4 @@
+//! What holders of a device may rely on.
 ghost use Rattle.gor_flush.specs.Devices.{Shown};
 ghost use Rattle.gor_flush.specs.FitTest.{FitIsTold};
 ghost use Rattle.gor_flush.specs.Keeps.{CallKeeps, DoneExtends, StepKeeps};

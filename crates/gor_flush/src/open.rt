@@ -1,3 +1,4 @@
+//! A device is opened: its disk is recovered, made ready, and becomes a start.
 ghost use Rattle.std.specs.Prelude.{◌≡◌, ◌≤◌, [], IsTrue, IfOk, IfErr, OnOk, MatchResult};
 ghost use Rattle.gor_disk.specs.Disk.{NothingPending};
 ghost use Rattle.gor_model.specs.Shares.{device_share};

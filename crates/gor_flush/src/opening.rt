@@ -1,3 +1,4 @@
+//! What an opening learned, as the start of a shard's history.
 use crate::device::Device;
 use gor_disk::Disk;
 use gor_image::Recovered;

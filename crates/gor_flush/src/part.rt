@@ -1,3 +1,4 @@
+//! The value of an object of a shard, of whichever kind.
 use crate::device::Device;
 use gor_cell::Cell;
 use gor_dir::Directory;

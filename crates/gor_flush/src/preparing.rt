@@ -1,4 +1,4 @@
-// What an opening does to the disk, once it has recovered what the disk holds.
+//! What an opening does to the disk, once it has recovered what the disk holds.
 ghost use Rattle.std.specs.Prelude.{◌≡◌, ◌≢◌, [], ◌∷◌, IsTrue, IfOk, IfErr};
 ghost use Rattle.gor_disk.specs.Disk.{NothingPending};
 ghost use Rattle.gor_image.specs.Images.{current};

@@ -1,4 +1,4 @@
-// A store that is there is opened to be written on.
+//! A store that is there is opened to be written on.
 ghost use Rattle.std.specs.Prelude.{◌≡◌, ◌≢◌, [], IsTrue, IfOk, IfErr, OnOk};
 ghost use Rattle.gor_disk.specs.Disk.{NothingPending, CountsFault};
 ghost use Rattle.gor_image.specs.Images.{current};

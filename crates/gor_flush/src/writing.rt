@@ -1,4 +1,4 @@
-// The device writes what a Take moved to its buffers.
+//! The device writes what a Take moved to its buffers.
 ghost use Rattle.std.specs.Prelude.{◌≡◌, true, false, is_err, IsTrue, OnErr, OnOk, vec_len};
 ghost use Rattle.gor_disk.specs.Disk.{CountsFault, Rose};
 ghost use Rattle.gor_gate.specs.Places.{IsEnsured};

@@ -1,4 +1,4 @@
-// The names of a shard's files.
+//! The names of a shard's files.
 use gor_disk::FileId;
 use std::fmt;
 

@@ -1,4 +1,4 @@
-// What reading a gated file gives.
+//! What reading a gated file gives.
 use thiserror::Error;
 
 /// A body of a gated file.

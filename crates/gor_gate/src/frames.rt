@@ -1,4 +1,4 @@
-// A body that is being made, with the room for its frame: its length before it and a shut gate behind it.
+//! A body that is being made, with the room for its frame: its length before it and a shut gate behind it.
 ghost use Rattle.std.specs.Prelude.{◌≡◌, ◌+◌, ◌<◌, ◌≤◌, [], ◌++◌, length, drop, take, vec_len, vec_capacity, IfOk, OnOk};
 ghost use Rattle.gor_gate.specs.Gates.{eight, framed};
 

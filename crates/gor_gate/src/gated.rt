@@ -1,4 +1,4 @@
-// A gated file.
+//! A gated file.
 ghost use Rattle.std.specs.Prelude.{◌≡◌, ◌≢◌, ◌<◌, ◌≤◌, ◌^◌, [], ◌∷◌, IsTrue, OnOk};
 ghost use Rattle.gor_disk.specs.Disk.{IsImage, IsSettled, Touches, CountsFault, wrote, held_now};
 ghost use Rattle.gor_gate.specs.Gates.{gates, IsClosed, IsOldOrNew, pushed};

@@ -1,4 +1,4 @@
-// The bodies of a file's bytes.
+//! The bodies of a file's bytes.
 ghost use Rattle.std.specs.Prelude.{◌≡◌, ◌≢◌, ◌+◌, ◌≤◌, ◌++◌, [], ◌∷◌, true, length, drop, IfOk, IfErr, OnOk};
 ghost use Rattle.gor_gate.specs.Gates.{number_of, gates};
 ghost use Rattle.gor_gate.specs.Bodies.{listed, IsCutAt};

@@ -1,4 +1,4 @@
-// A gated file, read whole.
+//! A gated file, read whole.
 ghost use Rattle.std.specs.Prelude.{◌≡◌, ◌≢◌, ◌^◌, ◌<◌, ℕ, length, IsTrue, IfOk, IfErr};
 ghost use Rattle.gor_disk.specs.Disk.{Looks};
 ghost use Rattle.gor_gate.specs.Gates.{gates};

@@ -1,3 +1,4 @@
+//! What the last mark says of the other files.
 ghost use Rattle.std.specs.Prelude.{◌≡◌, ◌<◌, ℕ, length, IfOk};
 ghost use Rattle.gor_image.specs.Recovered.{AreMarksOrNone};
 ghost use Rattle.gor_image.specs.StoreReads.{IsBasedOn, told_by, live_from};

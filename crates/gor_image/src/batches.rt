@@ -1,4 +1,4 @@
-// The batches of a log, read body after body.
+//! The batches of a log, read body after body.
 ghost use Rattle.std.specs.Prelude.{◌≡◌, ◌+◌, ◌<◌, ◌^◌, [], ◌∷◌, ◌++◌, List, length, map, IfOk};
 ghost use Rattle.std.specs.List.{flat_map};
 ghost use Rattle.gor_gate.specs.Bodies.{listed, AreInside};

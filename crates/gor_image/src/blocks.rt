@@ -1,4 +1,4 @@
-// The block file of a window: its rows, with the points of their blocks.
+//! The block file of a window: its rows, with the points of their blocks.
 ghost use Rattle.std.specs.Prelude.{◌≡◌, ◌+◌, ◌*◌, ◌<◌, ◌≤◌, ◌^◌, length, map, IfOk};
 ghost use Rattle.std.specs.List.{AllByRecursion};
 ghost use Rattle.gor_model.specs.Windows.{last_window};

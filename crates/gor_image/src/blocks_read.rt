@@ -1,3 +1,4 @@
+//! The block files that are live are read, oldest first, and their points gathered.
 ghost use Rattle.std.specs.Prelude.{◌≡◌, ℕ, IfOk, IfErr, IsTrue};
 ghost use Rattle.gor_disk.specs.declared.disk.FileId.TheVariants.{Block};
 ghost use Rattle.gor_image.specs.Grammars.{rows_at};

@@ -1,3 +1,4 @@
+//! What may be wrong with the files of a shard.
 use gor_disk::FileId;
 
 /// What is wrong at a place of a file.

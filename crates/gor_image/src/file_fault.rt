@@ -1,4 +1,4 @@
-// Why bytes are not read as records, and faults of bodies as damage of their files.
+//! Why bytes are not read as records, and faults of bodies as damage of their files.
 ghost use Rattle.std.specs.Prelude.{◌≡◌, ◌+◌, ◌<◌, ◌^◌};
 ghost use Rattle.gor_image.specs.declared.file_fault.FileFault.TheVariants.{Damaged, NoMemory};
 ghost use Rattle.gor_image.specs.declared.recovered.OpenFault.{OpenFault as Refused};

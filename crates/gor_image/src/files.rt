@@ -1,4 +1,4 @@
-// The files of a shard, each read whole into records and given up. Nothing is written.
+//! The files of a shard, each read whole into records and given up. Nothing is written.
 ghost use Rattle.std.specs.Prelude.{◌≡◌, ℕ, ◌++◌, ◌^◌, ◌<◌, List, length, map, Ok, IsTrue, IfOk, IfErr};
 ghost use Rattle.gor_disk.specs.declared.disk.FileId.TheVariants.{Marks, Keys, Log, Block};
 ghost use Rattle.gor_gate.specs.Gates.{gates};

@@ -1,3 +1,4 @@
+//! Points and changes of series are gathered, record by record.
 ghost use Rattle.std.specs.Prelude.{◌≡◌, [], map, OnOk, IfOk, fold, length, option_map};
 ghost use Rattle.gor_model.specs.PlainMap.{last_of};
 ghost use Rattle.gor_image.specs.Gathering.{with_point, with_points, with_row, with_log, with_end, each_with_row, each_with_rows, each_with_record, each_with_batch, each_with_batches};

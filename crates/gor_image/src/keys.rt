@@ -1,4 +1,4 @@
-// The records of a key list, read body after body.
+//! The records of a key list, read body after body.
 ghost use Rattle.std.specs.Prelude.{◌≡◌, ℕ, ◌+◌, ◌<◌, ◌≤◌, ◌^◌, [], List, length, map, nat_eq, Bool, ◌&&◌, Ok, OnOk, IfErr, IfOk};
 ghost use Rattle.std.specs.List.{AllByRecursion, flat_map};
 ghost use Rattle.gor_model.specs.declared.unit.Unit.{Unit as TimeUnit};

@@ -1,3 +1,4 @@
+//! What appends and openings may rely on.
 ghost use Rattle.gor_image.specs.Laws.{ListsDecide, SameListsHold, KeysChangeNothing, BothExtend, WaitingSpells, BlockIsFound, BlockIsExact, BeginsItself, NoMarkIsFresh, EmptyIsFresh, HomeIsFresh, OpensAgain};
 
 /// The laws that appends rest on, as clauses. Those on appends speak of an image that is fit and holds the state after some

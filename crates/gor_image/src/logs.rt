@@ -1,3 +1,4 @@
+//! What the logs say beside the points of series: their last number, floor and tops.
 ghost use Rattle.std.specs.Prelude.{◌≡◌, ℕ, [], ◌∷◌, ◌++◌, map, filter_map, fold, OnOk};
 ghost use Rattle.std.specs.List.{AllByRecursion};
 ghost use Rattle.gor_model.specs.PlainMap.{greatest};

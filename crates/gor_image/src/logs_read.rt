@@ -1,3 +1,4 @@
+//! The logs that the marks name are read, one after another.
 ghost use Rattle.std.specs.Prelude.{◌≡◌, ◌≤◌, ℕ, List, [], IfOk, IfErr, IsTrue};
 ghost use Rattle.gor_disk.specs.declared.disk.FileId.TheVariants.{Log};
 ghost use Rattle.gor_image.specs.Images.{read_logs, read_gated, read_batch, last_number};

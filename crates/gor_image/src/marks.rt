@@ -1,4 +1,4 @@
-// The marks of a shard, read one after another.
+//! The marks of a shard, read one after another.
 ghost use Rattle.std.specs.Prelude.{◌≡◌, ◌+◌, ◌<◌, ◌^◌, [], ◌∷◌, ◌++◌, ℕ, Ok, OnOk, IfErr, IfOk};
 ghost use Rattle.gor_gate.specs.Bodies.{listed, AreInside};
 ghost use Rattle.gor_marks.specs.Spelling.{InLimits, is_home};

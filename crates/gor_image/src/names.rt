@@ -1,3 +1,4 @@
+//! The series that a key list leaves, with their keys and slots kept apart.
 ghost use Rattle.std.specs.Prelude.{◌≡◌, ◌<◌, ℕ, [], None, IfOk, OnOk, length, replicate};
 ghost use Rattle.gor_image.specs.Recovery.{Names, named, freed, read_name};
 ghost use Rattle.gor_image.specs.Naming.{AreNames, Answers, HasSlot, counts_in};

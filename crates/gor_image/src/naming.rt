@@ -1,3 +1,4 @@
+//! The records of a key list are followed to the series that it leaves.
 ghost use Rattle.std.specs.Prelude.{◌≡◌, ℕ, [], None, IfOk, IfErr, map, filter_map, length, replicate};
 ghost use Rattle.std.specs.List.{AllByRecursion};
 ghost use Rattle.gor_model.specs.Windows.{slots_of_a_shard};

@@ -1,3 +1,4 @@
+//! The ranges of change numbers that the batches of the logs cover.
 ghost use Rattle.std.specs.Prelude.{◌≡◌, ◌<◌, ◌≤◌, ◌||◌, ℕ, take, drop, length, nat_le};
 ghost use Rattle.std.specs.List.{AllByRecursion, list_any};
 ghost use Rattle.gor_image.specs.Ranges.{RangesRise, has_number};

@@ -1,3 +1,4 @@
+//! Records as they are read, with their places.
 use gor_keys::KeyRecord;
 use gor_log::LogRecord;
 use gor_model::Points;

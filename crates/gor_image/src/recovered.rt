@@ -1,3 +1,4 @@
+//! What an opening recovers, and why it may not.
 use crate::fault::ImageFault;
 use gor_marks::Mark;
 use gor_model::Points;

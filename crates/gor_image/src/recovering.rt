@@ -1,3 +1,4 @@
+//! A disk is recovered: read whole, checked and restored.
 ghost use Rattle.std.specs.Prelude.{◌≡◌, ◌<◌, ℕ, [], length, Ok, IfOk, IfErr, IsTrue};
 ghost use Rattle.gor_image.specs.Images.{opens_to, same_home};
 ghost use Rattle.gor_image.specs.Openings.{OnlyRead, IsMet, CountsOpenFault};

@@ -1,3 +1,4 @@
+//! What was gathered becomes the map of a shard, within its limits.
 ghost use Rattle.std.specs.Prelude.{◌≡◌, ◌<◌, ◌≤◌, ◌+◌, ◌^◌, ℕ, map, filter_map, unwrap_or, Ok, IfOk, IfErr};
 ghost use Rattle.std.specs.List.{AllByRecursion};
 ghost use Rattle.gor_model.specs.PlainMap.{greatest};

@@ -1,3 +1,4 @@
+//! The series that are there get the points that were gathered for them.
 ghost use Rattle.std.specs.Prelude.{◌≡◌, [], ◌∷◌, ◌++◌, IfOk, IfErr, OnOk, IsTrue};
 ghost use Rattle.std.specs.List.{AllByRecursion, list_any};
 ghost use Rattle.gor_model.specs.Windows.{kept};

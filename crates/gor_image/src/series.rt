@@ -1,3 +1,4 @@
+//! What was gathered of each series that a key list may begin.
 ghost use Rattle.std.specs.Prelude.{◌≡◌, ◌<◌, [], map, OnOk, IfOk, IfSome, IfNone, false, length, IsTrue, ⊤};
 ghost use Rattle.std.specs.List.{AllByRecursion, IsAmong, list_any};
 ghost use Rattle.gor_image.specs.Recovery as spec;

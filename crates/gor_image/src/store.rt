@@ -1,3 +1,4 @@
+//! The files that the marks name are read into one store.
 ghost use Rattle.std.specs.Prelude.{◌≡◌, ◌≤◌, ℕ, IfOk, IfErr, IsTrue};
 ghost use Rattle.gor_image.specs.Images.{read_files};
 ghost use Rattle.gor_image.specs.Recovery.{base_end};

@@ -1,3 +1,4 @@
+//! The two buffers of a journal: key records and log records that wait.
 ghost use Rattle.std.specs.Prelude.{◌≡◌};
 ghost use Rattle.gor_journal.specs.Bodies.{AreEmpty};
 

@@ -1,3 +1,4 @@
+//! A change as it is appended to a journal.
 ghost use Rattle.std.specs.Prelude.{◌≡◌, ◌≤◌};
 ghost use Rattle.gor_model.specs.Windows.{window, greatest_time};
 ghost use Rattle.gor_journal.specs.Entries.{InLimits, entry_weight, entry_window, key_need, log_need, greater};

@@ -1,3 +1,4 @@
+//! The journal of a shard: changes that wait for a flush.
 ghost use Rattle.std.specs.Prelude.{◌≡◌, ℕ, ◌+◌, ◌^◌, ◌<◌, ◌≤◌, [], false, IfOk, OnOk, List, vec_len, vec_capacity};
 ghost use Rattle.gor_model.specs.Shares.{JournalShare, journal_share};
 ghost use Rattle.gor_model.specs.SharesAfter.{journal_with, journal_taken, journal_stopped};

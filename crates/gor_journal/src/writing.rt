@@ -1,4 +1,4 @@
-// Records in room that is there. A body stands behind eight bytes that are kept for its length, and no body has no bytes.
+//! Records in room that is there. A body stands behind eight bytes that are kept for its length, and no body has no bytes.
 ghost use Rattle.std.specs.Prelude.{◌≡◌, ℕ, ◌+◌, ◌<◌, ◌≤◌, [], ◌∷◌, ◌++◌, length, take, drop, replicate, vec_len, vec_capacity};
 ghost use Rattle.std.specs.Int.{w32, w64, to_be_bytes};
 ghost use Rattle.gor_model.specs.Names.{IsName};

@@ -1,3 +1,4 @@
+//! A body of a key list is read, record by record.
 ghost use Rattle.std.specs.Prelude.{◌≡◌, ◌+◌, ◌^◌, ◌<◌, ◌≤◌, length, drop, Ok, Err, IfOk, MatchOption, true, false, List};
 ghost use Rattle.gor_model.specs.Fields.{wrong};
 ghost use Rattle.gor_model.specs.declared.unit.Unit.{Unit as TimeUnit};

@@ -1,3 +1,4 @@
+//! The records of a key list.
 use gor_model::Unit;
 use gor_name::Name;
 

@@ -1,3 +1,4 @@
+//! A body of a log is read as one batch.
 ghost use Rattle.std.specs.Prelude.{◌≡◌, ◌+◌, ◌^◌, ◌<◌, ◌≤◌, length, drop, Ok, Err, IfOk};
 ghost use Rattle.gor_fields.specs.Readings.{Gives};
 ghost use Rattle.gor_log.specs.Spelling.{Batch, IsBatch, spelling};

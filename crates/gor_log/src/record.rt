@@ -1,3 +1,4 @@
+//! The records of a log.
 /// A record of a log. A uid is from 1 to 2^63 - 1, and a window at most 596,522.
 #[derive(Clone, Copy, Debug, PartialEq, Eq)]
 pub enum LogRecord {

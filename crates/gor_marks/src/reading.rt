@@ -1,3 +1,4 @@
+//! A body of the marks is read as one mark.
 ghost use Rattle.std.specs.Prelude.{◌≡◌, Ok, IfOk, true, false};
 ghost use Rattle.gor_model.specs.Fields.{wrong};
 ghost use Rattle.gor_marks.specs.Spelling.{InLimits, is_home, spelling};

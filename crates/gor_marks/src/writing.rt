@@ -1,3 +1,4 @@
+//! A mark is spelled as a body.
 ghost use Rattle.std.specs.Prelude.{◌≡◌, ◌++◌, ◌≤◌, length, drop, OnOk, OnErr};
 ghost use Rattle.std.specs.Int.{w32, w64, to_be_bytes};
 ghost use Rattle.gor_marks.specs.Spelling.{InLimits, spelling};

@@ -1,3 +1,4 @@
+//! A list of bytes, seen as a list.
 ghost use Rattle.std.specs.Prelude.{◌≡◌, [], ◌∷◌, ◌++◌, length, slice_get, OnOk, OnErr};
 
 use std::alloc::{AllocError, Global};

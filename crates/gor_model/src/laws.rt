@@ -1,3 +1,4 @@
+//! The laws of shares.
 ghost use Rattle.gor_model.specs.Objects.{UntouchedStays, AnswerBySharesHeld};
 
 /// The two laws of shares, as clauses: an event leaves the shares of the objects that it does not touch as they were, and

@@ -1,3 +1,4 @@
+//! Numbers in bytes, the highest byte first.
 ghost use Rattle.std.specs.Prelude.{◌≡◌, ◌+◌, ◌≤◌, length};
 ghost use Rattle.std.specs.Int.{w32, w64};
 ghost use Rattle.gor_model.specs.Fields.{number_in, is_number, is_window};

@@ -1,3 +1,4 @@
+//! Points and lists of points.
 ghost use Rattle.std.specs.Prelude.{◌≡◌, [], ◌∷◌, ◌++◌, length, slice_get, OnOk, OnErr, IfOk, filter};
 ghost use Rattle.gor_model.specs.Windows.{kept};
 ghost use Rattle.gor_model.specs.Answers.{in_range};

@@ -1,3 +1,4 @@
+//! The start of a shard's history, as data.
 use crate::bytes::Bytes;
 use crate::point::Points;
 use std::collections::LinkedList;

@@ -1,3 +1,4 @@
+//! The unit of times.
 ghost use Rattle.std.specs.Prelude.{◌≡◌};
 ghost use Rattle.gor_model.specs.Windows.{per, store_unit};
 

@@ -1,3 +1,4 @@
+//! What is wrong with bytes that are read.
 /// What is wrong with a body of a gated file, or with a block file.
 #[derive(Clone, Copy, Debug, PartialEq, Eq)]
 pub enum Wrong {

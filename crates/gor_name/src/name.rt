@@ -1,3 +1,4 @@
+//! Names of series and their keys.
 ghost use Rattle.std.specs.Prelude.{◌≡◌, ◌≤◌, ◌<◌, length, string_bytes, IfOk, IfErr, OnOk, IsOkUnless};
 ghost use Rattle.gor_model.specs.Names.{IsName, key_of, fnv1a, shard_of};
 ghost use Rattle.gor_name.specs.Refusals.{Tells, StopsAt};

@@ -1,3 +1,4 @@
+//! What is done while a read holds its series.
 ghost use Rattle.std.specs.Prelude.{ℕ};
 
 /// What is done while a read holds its series, so that a test can show what other lanes may do meanwhile.

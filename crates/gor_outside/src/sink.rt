@@ -1,3 +1,4 @@
+//! Where bytes are written.
 ghost use Rattle.std.specs.Prelude.{◌≡◌, ◌+◌, ◌^◌, ◌≤◌, ◌<◌, List, Option, Some, ℕ, length, take, min, OnErr, OnOk, IfOk, Contains, [], ◌++◌};
 ghost use Rattle.std.specs.Io.{WritesAtMost};
 ghost use Rattle.std.specs.Io.KnownBytes.{WriteAppends};

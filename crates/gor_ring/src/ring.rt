@@ -1,3 +1,4 @@
+//! A map from twelve windows in a row to items.
 ghost use Rattle.std.specs.Prelude.{◌≡◌, ℕ, ◌≤◌, nat_eq, nat_le, length, option_map, if◌then◌else◌};
 ghost use Rattle.std.specs.Option.{option_copied};
 ghost use Rattle.gor_ring.specs.Places.{IsInRange, item_at, empty, with_item, shifted, advanced};

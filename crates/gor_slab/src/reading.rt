@@ -1,3 +1,4 @@
+//! The index of a block file is read and checked.
 ghost use Rattle.std.specs.Prelude.{◌≡◌, ◌+◌, ◌-◌, ◌*◌, ◌^◌, ◌<◌, ◌≤◌, List, length, drop, Ok, IfOk, OnOk, All};
 ghost use Rattle.gor_model.specs.declared.unit.Unit.{Unit as TimeUnit};
 ghost use Rattle.gor_fields.specs.declared.field_fault.FieldFault.TheVariants as faults;

@@ -1,3 +1,4 @@
+//! A row of a block file's index.
 use gor_model::Unit;
 
 /// Where the block of a series in a window stands. A uid is from 1 to 2^63 - 1, and a window at most 596,522. The place and

@@ -1,3 +1,4 @@
+//! The laws on which the text of a store rests.
 ghost use Rattle.gor_store.specs.LineParts.{RefusedMakesNone, FlushFollowsDue};
 ghost use Rattle.gor_store.specs.Sessions.{ImagesOpenAgain, SessionStands, SessionIsWhole};
 ghost use Rattle.gor_store.specs.Stories.{OneHistory, OneHistoryBegins};

@@ -1,3 +1,4 @@
+//! Which lines a program takes.
 ghost use Rattle.std.specs.Prelude.{◌≡◌};
 ghost use Rattle.std.specs.Prelude.{Bool};
 ghost use Rattle.gor_text.specs.declared.workload.Item.{Item as Said};

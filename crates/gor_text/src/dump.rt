@@ -1,3 +1,4 @@
+//! The lines of a dump.
 ghost use Rattle.std.specs.Prelude.{◌≡◌, ◌++◌, OnOk};
 ghost use Rattle.gor_text.specs.Dumps.{floor_line, series_line};
 

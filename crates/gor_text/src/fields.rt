@@ -1,3 +1,4 @@
+//! Words, numbers and lanes in the bytes of a line.
 ghost use Rattle.std.specs.Prelude.{◌≡◌, [], ◌∷◌, length, MatchOption, IfOk, IfSome, Some, None, ◌<◌};
 ghost use Rattle.gor_text.specs.Grammar.{words_of, digit_in, value_from, number_of, word_of, lane_of};
 

@@ -1,3 +1,4 @@
+//! What one line says.
 ghost use Rattle.std.specs.Prelude.{◌≡◌, [], ◌∷◌, length, IfOk, IfSome, MatchOption, Some, None, option_map, if◌then◌else◌};
 ghost use Rattle.std.specs.Str.{is_utf8};
 ghost use Rattle.gor_text.specs.Workloads.{HasLane};

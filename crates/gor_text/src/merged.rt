@@ -1,3 +1,4 @@
+//! The points of a merge.
 use gor_model::Merged;
 use std::alloc::{AllocError, Global};
 use std::marker::Model;

@@ -1,3 +1,4 @@
+//! A workload is read from its bytes.
 ghost use Rattle.std.specs.Prelude.{◌≡◌, ◌≢◌, ◌+◌, ◌<◌, ◌++◌, ℕ, [], ◌∷◌, length, map, IfOk, IfSome, IfNone, OnOk, Some, Err, true, false};
 ghost use Rattle.gor_text.specs.Grammar.{lines_of, item_of};
 ghost use Rattle.gor_text.specs.Workloads.{IsWorkloadText, IsFirstBad, is_good_line, HasLane, empty_lanes, phase_lines, lines_in, phases_of, every_line};

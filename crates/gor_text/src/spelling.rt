@@ -1,3 +1,4 @@
+//! Answers are spelled as lines.
 ghost use Rattle.std.specs.Prelude.{◌≡◌, ◌<◌, ◌++◌, ◌∷◌, [], length, flat_map, codes, decimal, OnOk, OnErr};
 ghost use Rattle.gor_text.specs.Spelling.{hex_digit, hex_digits, word_text, point_text, merged_text, reply_text, reason_text, event_line, refusal_line, merged_line, what_line, answer_line};
 

@@ -1,3 +1,4 @@
+//! A workload: phases of lines, lane by lane.
 use gor_model::Bytes;
 use std::alloc::{AllocError, Global};
 use std::marker::Model;

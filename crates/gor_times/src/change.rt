@@ -1,4 +1,4 @@
-// A change of differences, by the five cases of the time code.
+//! A change of differences, by the five cases of the time code.
 ghost use Rattle.std.specs.Prelude.{◌≡◌, ℕ, ◌+◌, ◌-◌, ◌*◌, ◌^◌, ◌<◌, ◌≤◌, ◌++◌, [], ◌∷◌, length, drop, true, false, IfOk, IfErr};
 ghost use Rattle.gor_bits.specs.Spelled.{spelled};
 ghost use Rattle.gor_model.specs.Codes.{time_code, Begins};

@@ -1,4 +1,4 @@
-// The code of a change alone.
+//! The code of a change alone.
 ghost use Rattle.std.specs.Prelude.{◌≡◌, ◌+◌, ◌-◌, ◌^◌, ◌≤◌, ◌++◌, ℤ, pos, negsuc, ◌≤ℤ◌, length, drop, IfOk, IfErr, IsOkAnd};
 ghost use Rattle.gor_bits.specs.BitString.{BitString};
 ghost use Rattle.gor_model.specs.Codes.{change_code, Begins};

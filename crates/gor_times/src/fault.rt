@@ -1,3 +1,4 @@
+//! Why no time stands at a place.
 use thiserror::Error;
 
 /// Why no time stands at a place. `at` is the place of the code's first bit.

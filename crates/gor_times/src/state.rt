@@ -1,3 +1,4 @@
+//! The running state of a block's times.
 ghost use Rattle.std.specs.Prelude.{◌≡◌, ℕ, ◌+◌, ◌-◌, ◌*◌, ◌^◌, ◌<◌, ◌≤◌, ◌++◌, List, Bool, map, length, drop, true, false, IsTrue, IfOk, IfErr, IsOkAnd};
 ghost use Rattle.gor_bits.specs.BitString.{BitString};
 ghost use Rattle.gor_model.specs.declared.point.Point.{Point};

@@ -1,4 +1,4 @@
-// What changed in a word, as it is read.
+//! What changed in a word, as it is read.
 ghost use Rattle.std.specs.Prelude.{◌≡◌, ℕ, ◌+◌, ◌<◌, ◌≤◌, ◌↔◌, Some, length, drop, IsTrue, IfOk, IfErr, IfSome, IfNone, ◌*◌, ◌^◌};
 ghost use Rattle.gor_model.specs.Codes.{window_for, fits};
 ghost use Rattle.gor_bits.specs.Spelled.{Stands};

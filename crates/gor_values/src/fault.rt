@@ -1,3 +1,4 @@
+//! Why no word stands at a place.
 use thiserror::Error;
 
 /// Why no word stands at a place. `at` is the place of the code's first bit.

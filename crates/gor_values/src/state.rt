@@ -1,3 +1,4 @@
+//! The running state of a block's words.
 ghost use Rattle.std.specs.Prelude.{◌≡◌, ℕ, ◌+◌, ◌-◌, ◌*◌, ◌/◌, ◌^◌, ◌<◌, ◌≤◌, ◌++◌, length, drop, true, false, bit_xor, List, Bool, IfOk, IfErr, IsOkAnd};
 ghost use Rattle.gor_bits.specs.BitString.{BitString};
 ghost use Rattle.gor_model.specs.Codes.{Begins, changed_code, window_after, value_code};

@@ -1,4 +1,4 @@
-// The part of a word that a code stores.
+//! The part of a word that a code stores.
 ghost use Rattle.std.specs.Prelude.{◌≡◌, ℕ, ◌+◌, ◌-◌, ◌*◌, ◌/◌, ◌^◌, ◌<◌, ◌≤◌, ◌++◌, Some, length, IsTrue};
 
 /// Behind so many bits of a word, so many bits of it.
