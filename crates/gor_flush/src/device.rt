@@ -3,7 +3,7 @@ use crate::files::CurrentFiles;
 use crate::preparing::Prepared;
 use gor_disk::Disk;
 use gor_gate::Gated;
-use gor_image::LogTop;
+use gor_recover::LogTop;
 use gor_journal::Buffers;
 use gor_marks::Mark;
 use gor_rule::Thing;

@@ -9,7 +9,7 @@ use crate::devices::{open, write};
 use crate::steps::has_point;
 use gor_disk::{Disk, DiskKind, MemoryDisk};
 use gor_flush::{Device, NoDevice};
-use gor_image::{OpenFault, Recovered, RecoveredRow, recover};
+use gor_recover::{OpenFault, Recovered, RecoveredRow, recover};
 use gor_journal::Journal;
 use std::alloc::Global;
 

@@ -10,7 +10,8 @@ use crate::reads::looks;
 use crate::sealed::lay_store;
 use gor_disk::{Disk, DiskCall, DiskFailed, DiskKind, FileId, MemoryDisk};
 use gor_flush::{Device, NoDevice, drop_old};
-use gor_image::{ImageFault, OpenFault};
+use gor_image::ImageFault;
+use gor_recover::OpenFault;
 use gor_marks::Mark;
 use std::alloc::Global;
 

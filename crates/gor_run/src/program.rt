@@ -19,7 +19,7 @@ use crate::serving::serve;
 use crate::status::Status;
 use crate::words::slots_of_run;
 use gor_disk::Disk;
-use gor_image::OpenFault;
+use gor_recover::OpenFault;
 use gor_outside::{Pause, Sink, Source};
 use gor_store::{NotStored, Store};
 use std::sync::Wait;

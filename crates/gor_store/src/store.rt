@@ -21,7 +21,7 @@ use gor_disk::Disk;
 use gor_finish::{FlushReply, flush};
 use gor_flush::NoDevice;
 use gor_hall::Pass;
-use gor_image::OpenFault;
+use gor_recover::OpenFault;
 use gor_outside::Pause;
 use gor_point::Shard;
 use gor_text::{LaneAnswer, Phase};
