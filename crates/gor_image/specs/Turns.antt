@@ -21,7 +21,7 @@ use Rattle.gor_log.specs.declared.record.LogRecord.TheVariants.{Put, Floor, Seal
 use Rattle.gor_image.specs.Records.{Batch, BlockRow, Base, Files}
 use Rattle.gor_image.specs.Recovery.{Names, names_of, recovered, log_records, points_of, put_point, block_points, next_of}
 use Rattle.gor_image.specs.Holding.{rows_of}
-use Rattle.gor_image.specs.Images.{read_files, current}
+use Rattle.gor_image.specs.Images.{read_files, read_logs, current}
 use Rattle.gor_image.specs.MarkLists.{MayFollow}
 use Rattle.gor_image.specs.Laws.{IsBefore, AreClosed}
 
@@ -64,6 +64,18 @@ abbrev pub live_record : List ℕ × Row → KeyRecord
 live_record r = Live r.1.uid r.1.slot r.1.floor r.1.name
 
 -- ---- the files
+
+-- the batches of earlier logs, and those of later ones, which read the same alone
+pub record SplitLogs (image : Contents) (earlier later : List ℕ) (batches : List Batch) : Type 0 where
+  pub dropped : List Batch
+  pub remaining : List Batch
+  pub is : batches ≡ dropped ++ remaining
+  pub earlier_read : read_logs image earlier [] ≡ Ok dropped
+  pub later_read : read_logs image later [] ≡ Ok remaining
+
+-- where logs are read without damage, so are the later ones of them alone
+abbrev pub LaterLogsAlone : Type 0
+LaterLogsAlone = (image : Contents) (earlier later : List ℕ) (batches : List Batch) → read_logs image (earlier ++ later) [] ≡ Ok batches → SplitLogs image earlier later batches
 
 -- The new files, against the old ones under the same names: a mark with this window, and `upto` for the changes before it. The
 -- old next number is at most the one behind `upto`.

@@ -1,6 +1,6 @@
 //! What appends and openings may rely on.
 ghost use Rattle.gor_image.specs.ReadFiles.{UnreadChangesNothing};
-ghost use Rattle.gor_image.specs.Turns.{MarkTurns};
+ghost use Rattle.gor_image.specs.Turns.{MarkTurns, LaterLogsAlone};
 ghost use Rattle.gor_image.specs.Laws.{ListsDecide, SameListsHold, KeysChangeNothing, BothExtend, WaitingSpells, BlockIsFound, BlockIsExact, BeginsItself, NoMarkIsFresh, EmptyIsFresh, HomeIsFresh, OpensAgain};
 
 /// The laws that appends rest on, as clauses. Those on appends speak of an image that is fit and holds the state after some
@@ -16,6 +16,8 @@ pub fn laws()
     // A mark behind the marks turns an image that has the new files over to them: it holds the same state by these, is fit, and
     // can be written on.
     ensures turns { MarkTurns }
+    // The later ones of the logs that it had are read alone as they were read behind the earlier ones.
+    ensures later { LaterLogsAlone }
     // A fit image begins from what it recovers to: it holds the state of that start, with no change yet.
     ensures begins { BeginsItself }
     // Where there is no mark, it is that of a fresh shard. So is the empty disk.

@@ -8,6 +8,7 @@ use Rattle.gor_image.proofs.FreshHome.{home_is_fresh}
 use Rattle.gor_image.proofs.OpenAgain.{opens_again}
 use Rattle.gor_image.proofs.ReadFiles.{unread_changes_nothing}
 use Rattle.gor_image.proofs.TurnImage.{mark_turns}
+use Rattle.gor_image.proofs.LaterLogs.{later_logs}
 use Rattle.gor_image.proofs.laws.laws.Goals as goal
 
 pub returns-clause-lists : goal.returns-clause-lists
@@ -51,3 +52,6 @@ returns-clause-unread c = unread_changes_nothing
 
 pub returns-clause-turns : goal.returns-clause-turns
 returns-clause-turns c = mark_turns
+
+pub returns-clause-later : goal.returns-clause-later
+returns-clause-later c = later_logs
