@@ -13,8 +13,8 @@ use crate::dropping::clear;
 use crate::files::{CurrentFiles, ensure_all, find_beside, find_marks};
 use gor_disk::{DeviceFault, Disk, FileId};
 use gor_gate::Frame;
-use gor_recover::OpenFault;
 use gor_marks::Mark;
+use gor_recover::OpenFault;
 use std::alloc::Global;
 
 fn clear_first<D: Disk>(disk: &mut D) -> Result<(), DeviceFault>

@@ -18,8 +18,8 @@ ghost use Rattle.gor_image.specs.DiskSteps.{GoesOn};
 use crate::device::Device;
 use crate::preparing::{Prepared, prepare};
 use gor_disk::Disk;
-use gor_recover::{OpenFault, Recovered, recover};
 use gor_journal::Buffers;
+use gor_recover::{OpenFault, Recovered, recover};
 use std::alloc::Global;
 use std::snapshot::Snapshot;
 

@@ -15,8 +15,8 @@ use crate::files::CurrentFiles;
 use crate::reopening::reopen;
 use gor_disk::Disk;
 use gor_gate::Frame;
-use gor_recover::{LogTop, OpenFault, Recovered};
 use gor_marks::{Mark, write_mark};
+use gor_recover::{LogTop, OpenFault, Recovered};
 use std::alloc::{AllocError, Global};
 
 /// The files that are appended to, and copies of the marks and of the logs that remain.

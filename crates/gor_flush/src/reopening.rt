@@ -11,8 +11,8 @@ ghost use Rattle.gor_image.specs.DiskSteps.{GoesOn};
 use crate::dropping::{drop_old, last_mark};
 use crate::files::{CurrentFiles, ensure_all, find_beside, find_marks};
 use gor_disk::{DeviceFault, Disk};
-use gor_recover::OpenFault;
 use gor_marks::Mark;
+use gor_recover::OpenFault;
 use std::alloc::Global;
 
 /// The number of the current key list and of the current log.

@@ -11,10 +11,10 @@ ghost use Rattle.gor_recover.specs.FileFaults.{Gives};
 ghost use Rattle.gor_recover.specs.Parts.{record_shown, batch_shown};
 ghost use Rattle.gor_recover.specs.BatchReads.{IsPart, AreParts};
 
-use gor_image::DamageKind;
 use crate::file_fault::{FileFault, damaged, misread};
 use crate::records::{LogPart, PlacedLog};
 use gor_gate::Body;
+use gor_image::DamageKind;
 use gor_log::{LogFault, LogRecord, read_log};
 use std::alloc::{AllocError, Global};
 

@@ -9,10 +9,10 @@ ghost use Rattle.gor_recover.specs.FileFaults.{Gives};
 ghost use Rattle.gor_recover.specs.RowReads.{is_milli, wants_memory, points_of, file_rows, IsRowOf, AreRows};
 ghost use Rattle.gor_recover.specs.Parts.{row_shown};
 
-use gor_image::DamageKind;
 use crate::file_fault::{FileFault, damaged, misread};
 use crate::records::BlockPart;
 use gor_block::{Block, BlockFault};
+use gor_image::DamageKind;
 use gor_model::{Points, Unit, u32_in};
 use gor_slab::{SlabFault, SlabRow, block_at, read_index};
 use std::alloc::{AllocError, Global};

@@ -6,9 +6,9 @@ ghost use Rattle.gor_image.specs.Grammars.{damage_of};
 ghost use Rattle.gor_recover.specs.FileFaults.{in_its_file};
 ghost use Rattle.gor_image.specs.Recovery.{is_above};
 
-use gor_image::{DamageKind, ImageFault};
 use crate::recovered::OpenFault;
 use gor_disk::FileId;
+use gor_image::{DamageKind, ImageFault};
 use gor_model::Wrong;
 use std::alloc::{AllocError, AllocFailed};
 

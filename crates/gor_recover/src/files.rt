@@ -17,7 +17,6 @@ ghost use Rattle.gor_recover.specs.RowReads.{AreRows};
 
 use crate::batches::parts_in;
 use crate::blocks::blocks_in;
-use gor_image::DamageKind;
 use crate::file_fault::{damaged, in_its_file};
 use crate::keys::keys_in;
 use crate::marks::marks_in;
@@ -25,6 +24,7 @@ use crate::records::{BlockPart, LogPart, PlacedKey};
 use crate::recovered::OpenFault;
 use gor_disk::{Disk, FileId};
 use gor_gate::{Body, GateFault, read_all};
+use gor_image::DamageKind;
 use gor_marks::Mark;
 use std::alloc::Global;
 

@@ -14,10 +14,10 @@ ghost use Rattle.gor_recover.specs.FileFaults.{Gives, Fails};
 ghost use Rattle.gor_recover.specs.Parts.{key_shown};
 ghost use Rattle.gor_recover.specs.KeyReads.{keys_read, list_read, keys_from, AreKeysAt, AreListed, NumbersRise};
 
-use gor_image::DamageKind;
 use crate::file_fault::{FileFault, damaged, is_above, misread};
 use crate::records::PlacedKey;
 use gor_gate::Body;
+use gor_image::DamageKind;
 use gor_keys::{KeyFault, KeyRecord, read_keys};
 use gor_model::Unit;
 use std::alloc::{AllocError, Global};

@@ -7,9 +7,9 @@ ghost use Rattle.gor_image.specs.Images.{mark_after, read_mark, read_bodies, is_
 ghost use Rattle.gor_recover.specs.FileFaults.{Gives, Fails};
 ghost use Rattle.gor_recover.specs.MarkReads.{AreFromHome};
 
-use gor_image::DamageKind;
 use crate::file_fault::{FileFault, damaged, is_above, misread};
 use gor_gate::Body;
+use gor_image::DamageKind;
 use gor_marks::{Mark, MarkFault, read_mark};
 use std::alloc::{AllocError, Global};
 use std::marker::Model;

@@ -10,12 +10,12 @@ ghost use Rattle.gor_recover.specs.NamesRead.{AreNamed, Reaches, Stops, names_fr
 ghost use Rattle.gor_recover.specs.Parts.{key_shown};
 ghost use Rattle.gor_recover.specs.Ranges.{RangesRise};
 
-use gor_image::{DamageKind, ImageFault};
 use crate::names::{Clash, NameTable, NamedRow, counts};
 use crate::ranges::Range;
 use crate::records::PlacedKey;
 use crate::recovered::OpenFault;
 use gor_disk::FileId;
+use gor_image::{DamageKind, ImageFault};
 use std::alloc::{AllocError, Global};
 
 /// The slots of a stored shard, at most.

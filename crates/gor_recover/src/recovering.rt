@@ -8,12 +8,12 @@ ghost use Rattle.gor_recover.specs.declared.recovered.OpenFault.TheVariants as r
 ghost use Rattle.gor_recover.specs.Recovers.{AreHomed, Opens, OpensStore, IsFresh, store_opens};
 
 use crate::base::based_on;
-use gor_image::ImageFault;
 use crate::files::read_marks;
+use crate::gathering::gather;
 use crate::recovered::{LogTop, OpenFault, Recovered};
 use crate::restore::restore;
-use crate::gathering::gather;
 use gor_disk::Disk;
+use gor_image::ImageFault;
 use gor_marks::Mark;
 use std::alloc::Global;
 

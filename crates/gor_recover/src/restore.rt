@@ -11,13 +11,13 @@ ghost use Rattle.gor_recover.specs.KeyReads.{AreKeysAt};
 ghost use Rattle.gor_recover.specs.NamesRead.{IsCalm};
 ghost use Rattle.gor_recover.specs.Gathers.{AreOfFiles, RestoresAll, FailsToRestore};
 
-use gor_image::ImageFault;
+use crate::gathering::GatheredFiles;
 use crate::logs::Logs;
 use crate::naming::read_names;
 use crate::records::PlacedKey;
 use crate::recovered::{OpenFault, Recovered, RecoveredRow};
 use crate::rows::rows;
-use crate::gathering::GatheredFiles;
+use gor_image::ImageFault;
 use gor_keys::KeyRecord;
 use gor_marks::Mark;
 use std::alloc::Global;

@@ -7,10 +7,10 @@ ghost use Rattle.gor_recover.specs.declared.recovered.OpenFault.TheVariants as r
 ghost use Rattle.gor_recover.specs.NamesRead.{IsCalm};
 ghost use Rattle.gor_recover.specs.Filling.{Fills, FailsToFill, FillAll, FailToFill};
 
-use gor_image::{DamageKind, ImageFault};
 use crate::names::NamedRow;
 use crate::recovered::{OpenFault, RecoveredRow};
 use crate::series::Series;
+use gor_image::{DamageKind, ImageFault};
 use gor_model::Points;
 use gor_model::windows::day;
 use std::alloc::{AllocError, Global};

@@ -13,8 +13,8 @@ use crate::output::write_text;
 use crate::status::Status;
 use crate::words::asks_dump;
 use gor_disk::Disk;
-use gor_recover::{OpenFault, recover};
 use gor_outside::Sink;
+use gor_recover::{OpenFault, recover};
 use std::alloc::Global;
 
 /// With how many slots a shard is recovered: with the most that one has.

@@ -9,8 +9,8 @@ ghost use Rattle.gor_recover.specs.Recovered.{keyed_row, recovered_start};
 ghost use Rattle.gor_store.specs.Directories.{AreRows, RestoresRow, RaisesTo, rows_start};
 
 use gor_dir::Directory;
-use gor_recover::{Recovered, RecoveredRow};
 use gor_model::windows::window_before;
+use gor_recover::{Recovered, RecoveredRow};
 use std::alloc::{AllocError, Global};
 
 /// Takes up the series of one row.

@@ -18,8 +18,8 @@ use gor_cell::Cell;
 use gor_dir::Directory;
 use gor_disk::Disk;
 use gor_flush::{Device, Part};
-use gor_recover::Recovered;
 use gor_journal::Journal;
+use gor_recover::Recovered;
 use std::alloc::{AllocError, Global};
 
 /// The parts of a shard that take memory.
