@@ -1,10 +1,10 @@
 -- The mark law for images: with the mark an image that has the new files holds the state by them.
 use Rattle.std.proofs.Common.{◌≡◌, ◌≢◌, ℕ, ◌+◌, ◌<◌, ◌≤◌, List, [], ◌∷◌, ◌++◌, false, Option, Some, refl, sym, ap, ◌∙◌, subst, unwrap_or}
-use Rattle.std.specs.Prelude.{Result, Ok, nat_lt, nat_eq, not, filter_map}
+use Rattle.std.specs.Prelude.{Ok, nat_lt, nat_eq, not, filter_map}
 use Rattle.std.proofs.lemmas.List.Elements.{filter_map-append}
 use Rattle.gor_disk.specs.declared.disk.FileId.TheVariants.{Marks, Keys}
 use Rattle.gor_disk.specs.Disk.{Contents}
-use Rattle.gor_gate.specs.Gates.{Walk, gates, pushed}
+use Rattle.gor_gate.specs.Gates.{Walk, gates}
 use Rattle.gor_model.specs.declared.event.Change.{Change}
 use Rattle.gor_model.specs.declared.start.Row.{Row}
 use Rattle.gor_model.specs.declared.start.Start.{Start}
@@ -16,14 +16,13 @@ use Rattle.gor_marks.specs.declared.mark.Mark.TheVariants.{Home, Sealed}
 use Rattle.gor_marks.specs.Reading.{mark_in}
 use Rattle.gor_marks.specs.Spelling.{spelling}
 use Rattle.gor_marks.proofs.MarkLaws.{mark_again}
-use Rattle.gor_image.specs.declared.fault.ImageFault.{ImageFault}
 use Rattle.gor_image.specs.Records.{Files}
 use Rattle.gor_image.specs.Recovery.{Names, ShardMap, is_above, names_of, recovered}
 use Rattle.gor_image.specs.Holding.{Stand}
 use Rattle.gor_image.specs.Grammars.{and_then, from, mark_at}
 use Rattle.gor_image.specs.Images.{base_of, current, first_log_of, mark_after, marks_of, read_files, read_mark, same_home, sealed_window}
 use Rattle.gor_image.specs.Fit.{FitHolds, HasBody, IsFitBy, IsFitStore}
-use Rattle.gor_image.specs.Appends.{ImageHolds, ImageStands, files_as}
+use Rattle.gor_image.specs.Appends.{ImageStands, files_as}
 use Rattle.gor_image.specs.MarkLists.{MayFollow}
 use Rattle.gor_image.specs.Laws.{AreClosed, IsBefore}
 use Rattle.gor_image.specs.Turns.{HasNew, MarksDiffer, MarkTurns, Turned}

@@ -12,8 +12,6 @@ use Rattle.gor_model.specs.declared.start.Row.{Row}
 use Rattle.gor_model.specs.Starts.{row_in, AreApart}
 use Rattle.gor_model.specs.PlainMap.{greatest}
 use Rattle.gor_model.proofs.SlotLaws.{bytes_tell}
-use Rattle.gor_keys.specs.declared.record.KeyRecord.{KeyRecord}
-use Rattle.gor_keys.specs.declared.record.KeyRecord.TheVariants.{Live}
 use Rattle.gor_log.specs.declared.record.LogRecord.{LogRecord}
 use Rattle.gor_image.specs.Records.{BlockRow, Base}
 use Rattle.gor_image.specs.Recovery.{Names, WrongName, with_name, named, read_name, seal_end, points_of, filled}

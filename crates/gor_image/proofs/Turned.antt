@@ -18,7 +18,7 @@ use Rattle.gor_keys.specs.declared.record.KeyRecord.TheVariants.{Create, Delete,
 use Rattle.gor_log.specs.declared.record.LogRecord.{LogRecord}
 use Rattle.gor_log.specs.declared.record.LogRecord.TheVariants.{Put, Floor, Seal}
 use Rattle.gor_image.specs.Records.{Placed, Batch, BlockRow, Base, Files}
-use Rattle.gor_image.specs.Recovery.{Names, ShardMap, recovered, read_name, read_each, no_names, counts, counted_keys, number_in, log_records, points_of, filled, floor_of, floor_end, base_end, next_of}
+use Rattle.gor_image.specs.Recovery.{ShardMap, recovered, read_name, read_each, no_names, counts, counted_keys, number_in, log_records, points_of, filled, floor_of, floor_end, base_end, next_of}
 use Rattle.gor_image.specs.Holding.{Stand, RiseAbove, BatchesRise, IsUidBelow, IsKeyUidBelow, rows_of}
 use Rattle.gor_image.specs.Turns.{IsCopied, is_live, bare, live_record, Turned}
 use Rattle.gor_image.proofs.Core.{Rises}

@@ -17,7 +17,7 @@ use Rattle.gor_marks.specs.Spelling.{spelling}
 use Rattle.gor_keys.specs.declared.record.KeyRecord.{KeyRecord}
 use Rattle.gor_keys.specs.declared.record.KeyRecord.TheVariants.{Live}
 use Rattle.gor_log.specs.declared.record.LogRecord.{LogRecord}
-use Rattle.gor_log.specs.declared.record.LogRecord.TheVariants.{Put, Floor, Seal}
+use Rattle.gor_log.specs.declared.record.LogRecord.TheVariants.{Put}
 use Rattle.gor_image.specs.Records.{Batch, BlockRow, Base, Files}
 use Rattle.gor_image.specs.Recovery.{Names, names_of, recovered, log_records, points_of, put_point, block_points, next_of}
 use Rattle.gor_image.specs.Holding.{rows_of}
