@@ -4,7 +4,7 @@ use crate::fault::Fault;
 use crate::laying::{SERIES, lay_blocks, lay_log, points_of};
 use crate::report::{Report, Row, nanos_since, now, tenths};
 use gor_disk::MemoryDisk;
-use gor_image::{OpenFault, Recovered, recover};
+use gor_recover::{OpenFault, Recovered, recover};
 use std::alloc::Global;
 use std::time::Clock;
 

@@ -7,8 +7,6 @@ pub mod Lending
 pub mod Parts
 pub mod Takes
 pub mod Writes
-pub mod ReadFiles
-pub mod Steps
 pub mod Dropping
 pub mod Opening
 pub mod Preparing
