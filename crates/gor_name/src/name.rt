@@ -121,10 +121,16 @@ fn check(text: &str) -> Result<(), NameFault>
     Ok(())
 }
 
-#[tactic(auto, unfolding(gor_model::specs::Names::key_of))]
+/// The key of a text. ASCII alone is folded byte by byte, which gives the same key in far fewer steps.
+#[tactic(auto, using(crate::proofs::Folding::key_of_ascii), unfolding(gor_model::specs::Names::key_of))]
 fn folded(alloc: Global, text: &str) -> Result<String, AllocError>
     ensures { IfOk result (λ key. string_bytes key ≡ key_of text.now) }
 {
+    if text.is_ascii() {
+        let mut key = String::from_str(alloc, text)?;
+        key.make_ascii_lowercase();
+        return Ok(key);
+    }
     default_case_fold_str(alloc, text)
 }
 
