@@ -176,7 +176,7 @@ fn count_all(answers: &[LaneAnswer]) -> Told {
 fn make_text(alloc: Global, answers: &[LaneAnswer]) -> Result<(), AllocError> {
     let mut text = Vec::new(alloc);
     for answer in answers {
-        write_answer(alloc, &mut text, answer)?;
+        write_answer(&mut text, answer)?;
     }
     Ok(())
 }
