@@ -13,3 +13,4 @@ pub mod Dropping
 pub mod Opening
 pub mod Preparing
 pub mod Found
+pub mod NextMarks
