@@ -26,3 +26,6 @@ pub mod Opens
 pub mod Stands
 pub mod Recovers
 pub mod FitTests
+pub mod NeededLogs
+pub mod Following
+pub mod TurnedTops

@@ -11,3 +11,4 @@ pub mod Dropping
 pub mod Opening
 pub mod Preparing
 pub mod Found
+pub mod NextMarks
