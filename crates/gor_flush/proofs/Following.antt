@@ -7,10 +7,11 @@ use Rattle.gor_model.specs.Windows.{last_window}
 use Rattle.gor_model.specs.Fields.{IsNumber}
 use Rattle.gor_marks.specs.declared.mark.Mark.{Mark}
 use Rattle.gor_marks.specs.declared.mark.Mark.TheVariants.{Home, Sealed}
-use Rattle.gor_image.specs.declared.recovered.LogTop.{LogTop}
+use Rattle.gor_recover.specs.declared.recovered.LogTop.{LogTop}
 use Rattle.gor_image.specs.Images.{current, base_of, first_log_of}
 use Rattle.gor_image.specs.Recovery.{is_above}
-use Rattle.gor_image.specs.Recovered.{MayFollow, AllFollow, AreMarks, AreTops}
+use Rattle.gor_image.specs.MarkLists.{MayFollow, AllFollow, AreMarks}
+use Rattle.gor_recover.specs.Recovered.{AreTops}
 use Rattle.gor_image.proofs.ReadBack.{unless, not_false}
 use Rattle.gor_flush.specs.NextMarks.{first_needed, is_later, next_mark}
 use Rattle.gor_flush.specs.Writes.{raised}

@@ -3,7 +3,7 @@ use Rattle.std.proofs.Common.{◌≡◌, ℕ, zero, suc, ◌+◌, ◌<◌, List,
 use Rattle.std.specs.Prelude.{nat_lt, slice_index_or}
 use Rattle.std.specs.List.{AllByRecursion}
 use Rattle.gor_journal.specs.Entries.{greater}
-use Rattle.gor_image.specs.declared.recovered.LogTop.{LogTop}
+use Rattle.gor_recover.specs.declared.recovered.LogTop.{LogTop}
 use Rattle.gor_flush.specs.NextMarks.{first_needed, is_later}
 use Rattle.gor_flush.specs.Writes.{raised}
 

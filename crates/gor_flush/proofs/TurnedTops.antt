@@ -5,9 +5,10 @@ use Rattle.std.specs.List.{range_with_len}
 use Rattle.std.proofs.lemmas.List.{map-append, append-nil}
 use Rattle.gor_marks.specs.declared.mark.Mark.{Mark}
 use Rattle.gor_marks.specs.declared.mark.Mark.TheVariants.{Home, Sealed}
-use Rattle.gor_image.specs.declared.recovered.LogTop.{LogTop}
+use Rattle.gor_recover.specs.declared.recovered.LogTop.{LogTop}
 use Rattle.gor_image.specs.Images.{current, first_log_of}
-use Rattle.gor_image.specs.Recovered.{MayFollow, AllFollow, AreMarks, AreTops}
+use Rattle.gor_image.specs.MarkLists.{MayFollow, AllFollow, AreMarks}
+use Rattle.gor_recover.specs.Recovered.{AreTops}
 use Rattle.gor_flush.specs.NextMarks.{turned_tops}
 use Rattle.gor_flush.proofs.Following.{some_marks}
 use Rattle.gor_flush.proofs.MarkLists.{current_push, first_log_push, follows, log_within}

@@ -5,7 +5,7 @@ use Rattle.gor_gate.specs.Places.{Place}
 use Rattle.gor_marks.specs.declared.mark.Mark.{Mark}
 use Rattle.gor_marks.specs.declared.mark.Mark.TheVariants.{Home, Sealed}
 use Rattle.gor_image.specs.Images.{current}
-use Rattle.gor_image.specs.declared.recovered.LogTop.{LogTop}
+use Rattle.gor_recover.specs.declared.recovered.LogTop.{LogTop}
 use Rattle.gor_flush.specs.declared.device.Device.{Device}
 use Rattle.gor_flush.specs.Devices.{Shown}
 use Rattle.gor_flush.specs.Writes.{raised}

@@ -3,7 +3,8 @@ ghost use Rattle.std.specs.Prelude.{◌≡◌, ◌+◌, ◌<◌, ◌≤◌, ◌^
 ghost use Rattle.gor_model.specs.Fields.{IsNumber};
 ghost use Rattle.gor_model.specs.Windows.{last_window};
 ghost use Rattle.gor_image.specs.Images.{base_of, current};
-ghost use Rattle.gor_image.specs.Recovered.{AreMarks, AreTops, MayFollow};
+ghost use Rattle.gor_image.specs.MarkLists.{AreMarks, MayFollow};
+ghost use Rattle.gor_recover.specs.Recovered.{AreTops};
 ghost use Rattle.gor_image.specs.Recovery.{is_above};
 ghost use Rattle.gor_flush.specs.Devices.{shown};
 ghost use Rattle.gor_flush.specs.NextMarks.{AreFilesOf, HasRoomToTurn, TurnsBeside, first_needed, is_later, next_mark, turned_tops};
@@ -12,7 +13,7 @@ ghost use Rattle.gor_flush.specs.Writes.{raised};
 use crate::device::Device;
 use gor_disk::Disk;
 use gor_gate::Gated;
-use gor_image::LogTop;
+use gor_recover::LogTop;
 use gor_marks::Mark;
 use std::alloc::AllocError;
 

@@ -1,7 +1,7 @@
 use Rattle.std.proofs.Common.{◌≡◌, ◌+◌, ◌-◌, ◌<◌, ◌≤◌, ◌∷◌, [], refl, length, false, true, List, arith, sym, subst, take, ◌∙◌, zero}
 use Rattle.std.specs.List.{AllByRecursion}
 use Rattle.std.proofs.lemmas.List.{take_all}
-use Rattle.gor_image.specs.declared.recovered.LogTop.{LogTop}
+use Rattle.gor_recover.specs.declared.recovered.LogTop.{LogTop}
 use Rattle.gor_flush.specs.NextMarks.{first_needed, is_later}
 use Rattle.gor_flush.specs.Writes.{raised}
 use Rattle.gor_flush.proofs.NeededLogs.{found, found_last, found_none}

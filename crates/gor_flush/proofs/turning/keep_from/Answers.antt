@@ -1,6 +1,6 @@
 use Rattle.std.proofs.Common.{rules, ◌≡◌, nat_le}
 use Rattle.std.proofs.lemmas.Fn.{filter_same}
-use Rattle.gor_image.specs.declared.recovered.LogTop.{LogTop}
+use Rattle.gor_recover.specs.declared.recovered.LogTop.{LogTop}
 use Rattle.gor_flush.proofs.turning.keep_from.Goals as goal
 
 pub returns-clause-items : goal.returns-clause-items

@@ -1,7 +1,8 @@
 use Rattle.std.proofs.Common.{◌≡◌, List, ◌++◌, ◌∷◌, [], sym, subst, ◌∙◌}
 use Rattle.gor_marks.specs.declared.mark.Mark.{Mark}
-use Rattle.gor_image.specs.Recovered.{AreMarks, AreTops}
-use Rattle.gor_image.specs.declared.recovered.LogTop.{LogTop}
+use Rattle.gor_image.specs.MarkLists.{AreMarks}
+use Rattle.gor_recover.specs.Recovered.{AreTops}
+use Rattle.gor_recover.specs.declared.recovered.LogTop.{LogTop}
 use Rattle.gor_flush.proofs.TurnedTops.{marks_turned, tops_turned}
 use Rattle.gor_flush.proofs.device.Device.turn.Goals as goal
 
