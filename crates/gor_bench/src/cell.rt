@@ -7,7 +7,7 @@ use crate::fault::Fault;
 use crate::report::{Report, Row, Spent, nanos_since, now, tenths};
 use crate::words::{KINDS, Kind, Series};
 use gor_block::Block;
-use gor_cell::{Cell, CellPut, Copied, LiveCell};
+use gor_cell::{BoxedBlock, Cell, CellPut, Copied, LiveCell};
 use gor_model::Unit;
 use gor_name::{Name, NameFault};
 use gor_ring::Ring;
@@ -144,13 +144,14 @@ fn read_days(copies: &mut Vec<Copied>, wanted: u64) -> Result<(), Fault> {
     Ok(())
 }
 
-/// The bytes that a block's bits lie in, with those for later bits.
-fn bytes_behind(block: Block) -> u64 {
-    block.bits.into_bytes().capacity() as u64
+/// The bytes of a block's box, and those that its bits lie in, with those for later bits.
+fn bytes_behind(kept: BoxedBlock) -> u64 {
+    let block = Box::into_inner(kept.boxed);
+    (size_of::<Block>() as u64).saturating_add(block.bits.into_bytes().capacity() as u64)
 }
 
-fn bytes_of_later(blocks: Vec<Block>) -> u64 {
-    let mut bytes = blocks.capacity() as u64 * size_of::<Block>() as u64;
+fn bytes_of_later(blocks: Vec<BoxedBlock>) -> u64 {
+    let mut bytes = blocks.capacity() as u64 * size_of::<BoxedBlock>() as u64;
     for block in blocks {
         bytes = bytes.saturating_add(bytes_behind(block));
     }
@@ -158,19 +159,20 @@ fn bytes_of_later(blocks: Vec<Block>) -> u64 {
 }
 
 /// The bytes behind a window's block, in the place of which a block with no points is left.
-fn bytes_at(alloc: Global, ring: &mut Ring<Block>, window: u32) -> Result<u64, Fault>
+fn bytes_at(alloc: Global, ring: &mut Ring<BoxedBlock>, window: u32) -> Result<u64, Fault>
     requires { window < 12 }
 {
     if ring.first() > 0 {
         return Err(Fault::Wrong);
     }
-    match ring.put(window, Block::new(alloc, Unit::Second, window)) {
+    let boxed = Box::new(alloc, Block::new(alloc, Unit::Second, window))?;
+    match ring.put(window, BoxedBlock { boxed }) {
         Some(block) => Ok(bytes_behind(block)),
         None => Ok(0),
     }
 }
 
-fn bytes_of_sealed(alloc: Global, mut ring: Ring<Block>) -> Result<u64, Fault> {
+fn bytes_of_sealed(alloc: Global, mut ring: Ring<BoxedBlock>) -> Result<u64, Fault> {
     let mut bytes = 0u64;
     for window in 0..WINDOWS {
         bytes = bytes.saturating_add(bytes_at(alloc, &mut ring, window)?);
@@ -178,7 +180,7 @@ fn bytes_of_sealed(alloc: Global, mut ring: Ring<Block>) -> Result<u64, Fault> {
     Ok(bytes)
 }
 
-/// The bytes that a cell lies in: its own, which hold the ring's places, and those that are on the heap.
+/// The bytes that a cell lies in: its own, which hold the boxes' places, and those that are on the heap.
 fn bytes_of(alloc: Global, cell: Cell) -> Result<u64, Fault> {
     let Some(live) = cell.live else {
         return Err(Fault::Wrong);
