@@ -7,7 +7,7 @@ use crate::fault::Fault;
 use crate::report::{Report, Row, Spent, nanos_since, now, tenths};
 use crate::words::{KINDS, Kind, Series};
 use gor_block::Block;
-use gor_cell::{BoxedBlock, Cell, CellPut, Copied, LiveCell};
+use gor_cell::{BoxedBlock, Cell, CellPut, Copied, LiveCell, SealedRing};
 use gor_model::Unit;
 use gor_name::{Name, NameFault};
 use gor_ring::Ring;
@@ -172,15 +172,22 @@ fn bytes_at(alloc: Global, ring: &mut Ring<BoxedBlock>, window: u32) -> Result<u
     }
 }
 
-fn bytes_of_sealed(alloc: Global, mut ring: Ring<BoxedBlock>) -> Result<u64, Fault> {
-    let mut bytes = 0u64;
+fn bytes_of_ring(alloc: Global, mut ring: Ring<BoxedBlock>) -> Result<u64, Fault> {
+    let mut bytes = size_of::<Ring<BoxedBlock>>() as u64;
     for window in 0..WINDOWS {
         bytes = bytes.saturating_add(bytes_at(alloc, &mut ring, window)?);
     }
     Ok(bytes)
 }
 
-/// The bytes that a cell lies in: its own, which hold the boxes' places, and those that are on the heap.
+fn bytes_of_sealed(alloc: Global, sealed: SealedRing) -> Result<u64, Fault> {
+    match sealed.ring {
+        Some(ring) => bytes_of_ring(alloc, Box::into_inner(ring)),
+        None => Ok(0),
+    }
+}
+
+/// The bytes that a cell lies in: its own, and those that are on the heap.
 fn bytes_of(alloc: Global, cell: Cell) -> Result<u64, Fault> {
     let Some(live) = cell.live else {
         return Err(Fault::Wrong);
