@@ -4,8 +4,8 @@ ghost use Rattle.gor_model.specs.Windows.{last_window};
 ghost use Rattle.gor_bench.specs.Steps.{IsBlockBefore};
 
 use crate::fault::Fault;
-use crate::report::{Report, Row, Spent, nanos_since, now, tenths};
-use crate::words::{KINDS, Kind, Series};
+use crate::report::{Spent, nanos_since, now, print_row, tenths};
+use crate::words::{KINDS, Kind, Series, sum_of};
 use gor_block::Block;
 use gor_model::{Point, Points, Unit};
 use std::alloc::{AllocError, Global};
@@ -66,10 +66,11 @@ fn push_blocks(blocks: &mut Vec<Block>, alloc: Global, words: &[u64]) -> Result<
     Ok(())
 }
 
+/// What points make together with those before them.
 pub fn sum_with(points: &Points, sum: u64) -> u64 {
     let mut sum = sum;
     for point in points.as_slice() {
-        sum = sum.rotate_left(1) ^ point.time ^ point.word;
+        sum = sum.rotate_left(1) ^ point.time.wrapping_add(point.word);
     }
     sum
 }
@@ -81,17 +82,6 @@ fn read_blocks(blocks: &[Block]) -> Result<u64, AllocError> {
         sum = sum_with(&block.points()?, sum);
     }
     Ok(sum)
-}
-
-/// What these words make at their times.
-pub fn sum_of(words: &[u64]) -> u64 {
-    let mut sum = 0u64;
-    let mut time = 0u64;
-    for word in words {
-        sum = sum.rotate_left(1) ^ time ^ *word;
-        time = time.saturating_add(60);
-    }
-    sum
 }
 
 /// The bytes that a block is written in. A block with no points has none.
@@ -126,7 +116,7 @@ fn round<R: Clock>(
     let begin = now(rt)?;
     let sum = read_blocks(blocks)?;
     let read = nanos_since(rt, begin)?;
-    if sum != sum_of(words) {
+    if sum != sum_of(words, 0, 60, u64::MAX) {
         return Err(Fault::Wrong);
     }
     let size = length_of_all(blocks)?;
@@ -138,45 +128,43 @@ fn round<R: Clock>(
     })
 }
 
-fn rounds<R: Clock>(
+/// A row: all rounds of the words of a kind.
+fn measure_words<R: Clock + Print>(
     rt: &R,
     alloc: Global,
+    label: &str,
     kind: Kind,
     blocks: &mut Vec<Block>,
     words: &mut Vec<u64>,
-) -> Result<Spent, Fault> {
+) -> Result<(), Fault> {
     let mut series = Series::new(kind);
     let mut spent = Spent::new();
     for _ in 0..ROUNDS {
         series.fill(words, POINTS * BLOCKS as usize)?;
         spent = spent.with(round(rt, alloc, blocks, words)?);
     }
-    Ok(spent)
-}
-
-fn measure_words<R: Clock>(rt: &R, alloc: Global, kind: Kind) -> Result<Row, Fault> {
-    let mut words = Vec::new(alloc);
-    let mut blocks = Vec::with_capacity(alloc, BLOCKS as usize)?;
-    let spent = rounds(rt, alloc, kind, &mut blocks, &mut words)?;
     let points = POINTS as u64 * BLOCKS as u64;
     let bytes = tenths(spent.size, points * ROUNDS as u64);
-    Ok(Row::new(
-        kind.label(),
-        [
-            bytes,
-            tenths(spent.write, points),
-            tenths(spent.read, points),
-            0,
-            0,
-        ],
-    ))
+    let figures = [
+        bytes,
+        tenths(spent.write, points),
+        tenths(spent.read, points),
+    ];
+    print_row(rt, label, &[], &figures)
 }
 
 /// Blocks of words of each kind.
-pub fn measure<R: Clock>(rt: &R, alloc: Global) -> Result<Report, Fault> {
-    let mut report = Report::new("blocks", &["bytes a point", "ns a push", "ns a point read"]);
-    for kind in KINDS {
-        report.add(measure_words(rt, alloc, kind)?);
+pub fn measure<R: Clock + Print>(rt: &R, alloc: Global) -> Result<(), Fault> {
+    let mut words = Vec::new(alloc);
+    let mut blocks = Vec::with_capacity(alloc, BLOCKS as usize)?;
+    print_row(
+        rt,
+        "blocks",
+        &["bytes a point", "ns a push", "ns a point read"],
+        &[],
+    )?;
+    for (kind, label) in KINDS {
+        measure_words(rt, alloc, label, kind, &mut blocks, &mut words)?;
     }
-    Ok(report)
+    Ok(())
 }

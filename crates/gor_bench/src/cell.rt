@@ -2,10 +2,10 @@
 ghost use Rattle.std.specs.Prelude.{◌≤◌, ◌<◌};
 ghost use Rattle.gor_model.specs.Windows.{greatest_time};
 
-use crate::blocks::{sum_of, sum_with, time_of};
+use crate::blocks::{sum_with, time_of};
 use crate::fault::Fault;
-use crate::report::{Report, Row, Spent, nanos_since, now, tenths};
-use crate::words::{KINDS, Kind, Series};
+use crate::report::{Spent, nanos_since, now, print_row, tenths};
+use crate::words::{KINDS, Kind, Series, sum_of};
 use gor_block::Block;
 use gor_cell::{Cell, CellPut, Copied, LiveCell};
 use gor_model::Unit;
@@ -63,42 +63,28 @@ fn put_point(cell: &mut Cell, time: u64, word: u64) -> Result<(), Fault>
     }
 }
 
-/// Puts the points of a window.
-fn put_window(cell: &mut Cell, window: u32, words: &[u64]) -> Result<(), Fault>
-    requires { window < 12 }
-{
-    for step in 0..POINTS {
-        let word = words.get(step).copied().unwrap_or(0);
-        put_point(cell, time_of(window, step), word)?;
-    }
-    Ok(())
-}
-
+/// Puts the points of a window in each cell.
 fn put_windows(cells: &mut [Cell], window: u32, words: &[u64]) -> Result<(), Fault>
     requires { window < 12 }
 {
     for cell in cells {
-        put_window(cell, window, words)?;
+        for step in 0..POINTS {
+            let word = words.get(step).copied().unwrap_or(0);
+            put_point(cell, time_of(window, step), word)?;
+        }
     }
     Ok(())
 }
 
-/// Seals one window, and drops the copies that a seal gives.
-fn seal_window(cell: &mut Cell, window: u32) -> Result<(), Fault>
-    requires { window < 12 }
-{
-    if !cell.is_live() || cell.floor() > window as u64 * 7200 {
-        return Err(Fault::Wrong);
-    }
-    cell.seal(window, window)?;
-    Ok(())
-}
-
+/// Seals one window of each cell, and drops the copies that a seal gives.
 fn seal_windows(cells: &mut [Cell], window: u32) -> Result<(), Fault>
     requires { window < 12 }
 {
     for cell in cells {
-        seal_window(cell, window)?;
+        if !cell.is_live() || cell.floor() > window as u64 * 7200 {
+            return Err(Fault::Wrong);
+        }
+        cell.seal(window, window)?;
     }
     Ok(())
 }
@@ -144,36 +130,25 @@ fn read_days(copies: &mut Vec<Copied>, wanted: u64) -> Result<(), Fault> {
     Ok(())
 }
 
-/// The bytes that a block's bits lie in, with those for later bits.
-fn bytes_behind(block: Block) -> u64 {
-    block.bits.into_bytes().capacity() as u64
-}
-
+/// The bytes that open blocks lie in, with those for later bits.
 fn bytes_of_later(blocks: Vec<Block>) -> u64 {
     let mut bytes = blocks.capacity() as u64 * size_of::<Block>() as u64;
     for block in blocks {
-        bytes = bytes.saturating_add(bytes_behind(block));
+        bytes = bytes.saturating_add(block.bits.into_bytes().capacity() as u64);
     }
     bytes
 }
 
-/// The bytes behind a window's block, in the place of which a block with no points is left.
-fn bytes_at(alloc: Global, ring: &mut Ring<Block>, window: u32) -> Result<u64, Fault>
-    requires { window < 12 }
-{
-    if ring.first() > 0 {
-        return Err(Fault::Wrong);
-    }
-    match ring.put(window, Block::new(alloc, Unit::Second, window)) {
-        Some(block) => Ok(bytes_behind(block)),
-        None => Ok(0),
-    }
-}
-
+/// The bytes behind the sealed blocks, in the place of each of which a block with no points is left.
 fn bytes_of_sealed(alloc: Global, mut ring: Ring<Block>) -> Result<u64, Fault> {
     let mut bytes = 0u64;
     for window in 0..WINDOWS {
-        bytes = bytes.saturating_add(bytes_at(alloc, &mut ring, window)?);
+        if ring.first() > 0 {
+            return Err(Fault::Wrong);
+        }
+        if let Some(block) = ring.put(window, Block::new(alloc, Unit::Second, window)) {
+            bytes = bytes.saturating_add(block.bits.into_bytes().capacity() as u64);
+        }
     }
     Ok(bytes)
 }
@@ -222,7 +197,7 @@ fn round<R: Clock>(
     let begin = now(rt)?;
     copy_days(copies, cells)?;
     let copy = nanos_since(rt, begin)?;
-    let wanted = sum_of(words);
+    let wanted = sum_of(words, 0, 60, u64::MAX);
     let begin = now(rt)?;
     read_days(copies, wanted)?;
     let read = nanos_since(rt, begin)?;
@@ -235,49 +210,42 @@ fn round<R: Clock>(
     })
 }
 
-fn rounds<R: Clock>(
+/// A row: all rounds of the words of a kind.
+fn measure_words<R: Clock + Print>(
     rt: &R,
     alloc: Global,
+    label: &str,
     kind: Kind,
     cells: &mut Vec<Cell>,
-    copies: &mut Vec<Copied>,
     words: &mut Vec<u64>,
-) -> Result<Spent, Fault> {
+) -> Result<(), Fault> {
+    let mut copies = Vec::new(alloc);
     let mut series = Series::new(kind);
     let mut spent = Spent::new();
     for _ in 0..ROUNDS {
         series.fill(words, DAY)?;
-        spent = spent.with(round(rt, alloc, cells, copies, words)?);
+        spent = spent.with(round(rt, alloc, cells, &mut copies, words)?);
     }
-    Ok(spent)
-}
-
-fn measure_words<R: Clock>(rt: &R, alloc: Global, kind: Kind) -> Result<Row, Fault> {
-    let (mut cells, mut copies, mut words) = (Vec::new(alloc), Vec::new(alloc), Vec::new(alloc));
-    let spent = rounds(rt, alloc, kind, &mut cells, &mut copies, &mut words)?;
     let days = CELLS as u64;
     let points = DAY as u64 * days;
     let bytes = tenths(spent.size, points * ROUNDS as u64);
     let (copy, read) = (tenths(spent.copy, days), tenths(spent.read, days));
-    Ok(Row::new(
-        kind.label(),
-        [bytes, tenths(spent.write, points), copy, read, 0],
-    ))
+    let figures = [bytes, tenths(spent.write, points), copy, read];
+    print_row(rt, label, &[], &figures)
 }
 
 /// Days of words of each kind.
-pub fn measure<R: Clock>(rt: &R, alloc: Global) -> Result<Report, Fault> {
-    let mut report = Report::new(
-        "cell",
-        &[
-            "bytes a point",
-            "ns a put",
-            "ns a day copied",
-            "ns a day decoded",
-        ],
-    );
-    for kind in KINDS {
-        report.add(measure_words(rt, alloc, kind)?);
+pub fn measure<R: Clock + Print>(rt: &R, alloc: Global) -> Result<(), Fault> {
+    let (mut cells, mut words) = (Vec::new(alloc), Vec::new(alloc));
+    let columns = [
+        "bytes a point",
+        "ns a put",
+        "ns a day copied",
+        "ns a day decoded",
+    ];
+    print_row(rt, "cell", &columns, &[])?;
+    for (kind, label) in KINDS {
+        measure_words(rt, alloc, label, kind, &mut cells, &mut words)?;
     }
-    Ok(report)
+    Ok(())
 }

@@ -30,11 +30,6 @@ const BATCH: u16 = 4;
 
 const BATCHES: u8 = 25;
 
-/// The points of so many windows of all series.
-pub fn points_of(windows: u8) -> u64 {
-    windows as u64 * 100_000
-}
-
 // ---- gated files
 
 /// Adds a body to a gated file that has no shut gate at its end yet: the open gate, the length of the body, and the body. An
@@ -55,48 +50,40 @@ fn write_file(disk: &mut MemoryDisk, file: FileId, bytes: &[u8]) -> Result<(), F
 
 // ---- marks
 
-fn push_mark(alloc: Global, file: &mut Vec<u8>, mark: &Mark) -> Result<(), Fault>
-    requires { InLimits mark.now }
+/// The first mark of a store, and behind it a mark for each window, behind the puts of which nothing was logged.
+fn mark_of(number: u8) -> Mark
+    ensures { InLimits result }
 {
-    let mut body = Vec::new(alloc);
-    write_mark(mark, &mut body)?;
-    push_body(file, &body)
-}
-
-fn push_home(alloc: Global, file: &mut Vec<u8>) -> Result<(), Fault> {
-    let home = Mark::Home {
-        shards: 1,
-        shard: 0,
-    };
-    push_mark(alloc, file, &home)
-}
-
-/// The mark of a window behind the puts of which nothing was logged.
-fn push_sealed(alloc: Global, file: &mut Vec<u8>, window: u8) -> Result<(), Fault> {
-    let number = window as u32 + 1;
-    let sealed = Mark::Sealed {
-        window: window as u32,
-        keys: number,
+    if number == 0 {
+        return Mark::Home {
+            shards: 1,
+            shard: 0,
+        };
+    }
+    Mark::Sealed {
+        window: number as u32 - 1,
+        keys: number as u32,
         upto: number as u64 * 100_000,
-        first_log: number,
-    };
-    push_mark(alloc, file, &sealed)
+        first_log: number as u32,
+    }
 }
 
 /// The marks of a store in which so many windows are sealed.
-fn push_marks(alloc: Global, file: &mut Vec<u8>, windows: u8) -> Result<(), Fault> {
-    push_home(alloc, file)?;
-    for window in 0..windows {
-        push_sealed(alloc, file, window)?;
+fn write_marks(
+    alloc: Global,
+    disk: &mut MemoryDisk,
+    file: &mut Vec<u8>,
+    windows: u8,
+) -> Result<(), Fault> {
+    file.clear();
+    let mut body = Vec::new(alloc);
+    for number in 0..windows as u16 + 1 {
+        body.clear();
+        write_mark(&mark_of(number as u8), &mut body)?;
+        push_body(file, &body)?;
     }
     file.push(0)?;
-    Ok(())
-}
-
-fn write_marks(alloc: Global, disk: &mut MemoryDisk, windows: u8) -> Result<(), Fault> {
-    let mut file = Vec::new(alloc);
-    push_marks(alloc, &mut file, windows)?;
-    write_file(disk, FileId::Marks, &file)
+    write_file(disk, FileId::Marks, file)
 }
 
 // ---- the key list
@@ -165,26 +152,21 @@ fn push_keys(alloc: Global, records: &mut Vec<KeyRecord>, is_live: bool) -> Resu
     Ok(())
 }
 
-/// The body of the key list of all series.
-fn push_list(alloc: Global, body: &mut Vec<u8>, is_live: bool) -> Result<(), Fault> {
-    let mut records = Vec::new(alloc);
-    push_keys(alloc, &mut records, is_live)?;
-    write_keys(Unit::Second, &records, body)?;
-    Ok(())
-}
-
 /// Writes the key list of all series, in one body.
 fn write_list(
     alloc: Global,
     disk: &mut MemoryDisk,
+    file: &mut Vec<u8>,
     name: FileId,
     is_live: bool,
 ) -> Result<(), Fault> {
-    let (mut body, mut file) = (Vec::new(alloc), Vec::new(alloc));
-    push_list(alloc, &mut body, is_live)?;
-    push_body(&mut file, &body)?;
+    file.clear();
+    let (mut records, mut body) = (Vec::new(alloc), Vec::new(alloc));
+    push_keys(alloc, &mut records, is_live)?;
+    write_keys(Unit::Second, &records, &mut body)?;
+    push_body(file, &body)?;
     file.push(0)?;
-    write_file(disk, name, &file)
+    write_file(disk, name, file)
 }
 
 // ---- the log
@@ -256,7 +238,14 @@ fn push_batch(
     push_body(file, &body)
 }
 
-fn push_log(alloc: Global, file: &mut Vec<u8>, windows: u8) -> Result<(), Fault> {
+/// Writes the log of so many windows.
+fn write_batches(
+    alloc: Global,
+    disk: &mut MemoryDisk,
+    file: &mut Vec<u8>,
+    windows: u8,
+) -> Result<(), Fault> {
+    file.clear();
     let mut words = Series::new(Kind::Gauge);
     for window in 0..windows {
         for batch in 0..BATCHES {
@@ -264,20 +253,15 @@ fn push_log(alloc: Global, file: &mut Vec<u8>, windows: u8) -> Result<(), Fault>
         }
     }
     file.push(0)?;
-    Ok(())
-}
-
-fn write_batches(alloc: Global, disk: &mut MemoryDisk, windows: u8) -> Result<(), Fault> {
-    let mut file = Vec::new(alloc);
-    push_log(alloc, &mut file, windows)?;
-    write_file(disk, FileId::Log(0), &file)
+    write_file(disk, FileId::Log(0), file)
 }
 
 /// A store all points of which stand in its log.
 pub fn lay_log(alloc: Global, disk: &mut MemoryDisk, windows: u8) -> Result<(), Fault> {
-    write_marks(alloc, disk, 0)?;
-    write_list(alloc, disk, FileId::Keys(0), false)?;
-    write_batches(alloc, disk, windows)
+    let mut file = Vec::new(alloc);
+    write_marks(alloc, disk, &mut file, 0)?;
+    write_list(alloc, disk, &mut file, FileId::Keys(0), false)?;
+    write_batches(alloc, disk, &mut file, windows)
 }
 
 // ---- block files
@@ -327,18 +311,14 @@ fn write_window(
     write_file(disk, FileId::Block(window as u32), &file)
 }
 
-fn write_windows(alloc: Global, disk: &mut MemoryDisk, windows: u8) -> Result<(), Fault> {
+/// A store all points of which stand in block files, one for each window.
+pub fn lay_blocks(alloc: Global, disk: &mut MemoryDisk, windows: u8) -> Result<(), Fault> {
+    let (mut file, mut words) = (Vec::new(alloc), Vec::new(alloc));
+    write_marks(alloc, disk, &mut file, windows)?;
+    write_list(alloc, disk, &mut file, FileId::Keys(windows as u32), true)?;
     let mut series = Series::new(Kind::Gauge);
-    let mut words = Vec::new(alloc);
     for window in 0..windows {
         write_window(alloc, disk, &mut series, &mut words, window)?;
     }
     Ok(())
-}
-
-/// A store all points of which stand in block files, one for each window.
-pub fn lay_blocks(alloc: Global, disk: &mut MemoryDisk, windows: u8) -> Result<(), Fault> {
-    write_marks(alloc, disk, windows)?;
-    write_list(alloc, disk, FileId::Keys(windows as u32), true)?;
-    write_windows(alloc, disk, windows)
 }

@@ -71,8 +71,8 @@ fn measure_all<R: Threads + Wait + Sync + Clock + Print>(
     parts: &[Part],
 ) -> Result<(), Fault> {
     for part in parts {
-        let report = part.measure(rt, host, alloc)?;
-        if report.print(rt).is_err() {
+        part.measure(rt, host, alloc)?;
+        if println!(rt; "").is_err() {
             return Err(Fault::Output);
         }
     }
@@ -87,8 +87,9 @@ fn main(rt: HostRuntime) -> ExitCode {
     match done {
         Ok(()) => ExitCode::SUCCESS,
         Err(fault) => {
-            let _ = eprintln!(rt; "gor_bench: {fault}");
-            ExitCode::from(fault.number())
+            let (number, why) = fault.told();
+            let _ = eprintln!(rt; "gor_bench: {why}");
+            ExitCode::from(number)
         }
     }
 }

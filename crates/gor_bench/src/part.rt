@@ -1,6 +1,5 @@
 //! The parts that can be measured, by their words.
 use crate::fault::Fault;
-use crate::report::Report;
 use crate::{blocks, cell, codes, recovery, shard, store, table};
 use std::alloc::Global;
 use std::sync::Wait;
@@ -41,13 +40,13 @@ impl Part {
         }
     }
 
-    /// Measures it. What is measured on real files has them of the host.
-    pub fn measure<R: Threads + Wait + Sync + Clock>(
+    /// Measures it, and prints its figures. What is measured on real files has them of the host.
+    pub fn measure<R: Threads + Wait + Sync + Clock + Print>(
         self,
         rt: &R,
         host: &HostRuntime,
         alloc: Global,
-    ) -> Result<Report, Fault> {
+    ) -> Result<(), Fault> {
         match self {
             Part::Codes => codes::measure(rt, alloc),
             Part::Blocks => blocks::measure(rt, alloc),

@@ -32,40 +32,28 @@ pub struct Load {
 
 // ---- the texts
 
-/// Adds a put at a time to each line's name.
-fn push_minute(
+/// Adds a put a minute of each line.
+pub fn push_puts(alloc: Global, text: &mut Vec<u8>, load: Load) -> Result<(), AllocError> {
+    let mut words = Series::new(Kind::Gauge);
+    for minute in 0..load.minutes {
+        let (time, word) = (minute as u64 * 60, words.word());
+        for line in 0..load.lines {
+            let lane = line % load.lanes.max(1);
+            let name = line % load.names.max(1);
+            let put = format!(in alloc; "{lane} put series.{name} {time} {word:016x}\n")?;
+            text.extend_from_slice(put.as_bytes())?;
+        }
+    }
+    Ok(())
+}
+
+/// Adds so many gets of the last two hours of the puts.
+pub fn push_gets(
     alloc: Global,
     text: &mut Vec<u8>,
     load: Load,
-    minute: u32,
-    word: u64,
+    gets: u32,
 ) -> Result<(), AllocError> {
-    let time = minute as u64 * 60;
-    for line in 0..load.lines {
-        let lane = line % load.lanes.max(1);
-        let name = line % load.names.max(1);
-        let put = format!(in alloc; "{lane} put series.{name} {time} {word:016x}\n")?;
-        text.extend_from_slice(put.as_bytes())?;
-    }
-    Ok(())
-}
-
-fn push_puts(alloc: Global, text: &mut Vec<u8>, load: Load) -> Result<(), AllocError> {
-    let mut words = Series::new(Kind::Gauge);
-    for minute in 0..load.minutes {
-        push_minute(alloc, text, load, minute, words.word())?;
-    }
-    Ok(())
-}
-
-/// The text of a put a minute of each line.
-pub fn text_of_puts(alloc: Global, load: Load) -> Result<Vec<u8>, AllocError> {
-    let mut text = Vec::new(alloc);
-    push_puts(alloc, &mut text, load)?;
-    Ok(text)
-}
-
-fn push_gets(alloc: Global, text: &mut Vec<u8>, load: Load, gets: u32) -> Result<(), AllocError> {
     let to = load.minutes.saturating_sub(1) as u64 * 60;
     let from = to.saturating_sub(7140);
     for line in 0..gets {
@@ -75,13 +63,6 @@ fn push_gets(alloc: Global, text: &mut Vec<u8>, load: Load, gets: u32) -> Result
         text.extend_from_slice(get.as_bytes())?;
     }
     Ok(())
-}
-
-/// The text of so many gets of the last two hours of the puts.
-pub fn text_of_gets(alloc: Global, load: Load, gets: u32) -> Result<Vec<u8>, AllocError> {
-    let mut text = Vec::new(alloc);
-    push_gets(alloc, &mut text, load, gets)?;
-    Ok(text)
 }
 
 // ---- the phases
@@ -176,7 +157,7 @@ fn count_all(answers: &[LaneAnswer]) -> Told {
 fn make_text(alloc: Global, answers: &[LaneAnswer]) -> Result<(), AllocError> {
     let mut text = Vec::new(alloc);
     for answer in answers {
-        write_answer(alloc, &mut text, answer)?;
+        write_answer(&mut text, answer)?;
     }
     Ok(())
 }

@@ -1,34 +1,15 @@
 //! Recovery: what a shard's files hold, read back from its log and from its block files.
 
 use crate::fault::Fault;
-use crate::laying::{SERIES, lay_blocks, lay_log, points_of};
-use crate::report::{Report, Row, nanos_since, now, tenths};
+use crate::laying::{SERIES, lay_blocks, lay_log};
+use crate::report::{nanos_since, now, print_row, tenths};
 use gor_disk::MemoryDisk;
-use gor_image::{OpenFault, Recovered, recover};
+use gor_recover::{OpenFault, Recovered, recover};
 use std::alloc::Global;
 use std::time::Clock;
 
 /// How often each store is recovered.
 const ROUNDS: u32 = 5;
-
-/// The windows of a store of a hundred thousand points, and of one of a million.
-const SHORT: u8 = 1;
-
-const LONG: u8 = 10;
-
-/// Where the points of a store stand.
-#[derive(Clone, Copy)]
-enum Place {
-    Log,
-    Blocks,
-}
-
-fn lay(alloc: Global, disk: &mut MemoryDisk, place: Place, windows: u8) -> Result<(), Fault> {
-    match place {
-        Place::Log => lay_log(alloc, disk, windows),
-        Place::Blocks => lay_blocks(alloc, disk, windows),
-    }
-}
 
 /// The points of all series.
 fn points_in(found: &Recovered) -> u64 {
@@ -61,48 +42,45 @@ fn time_recovery<R: Clock>(
     }
 }
 
-/// The nanoseconds of the fastest of some rounds, on a disk that is empty.
-fn fastest_recovery<R: Clock>(
+/// A row of a store of so many windows, all points of which stand in its log, or in block files.
+fn measure_store<R: Clock + Print>(
     rt: &R,
     alloc: Global,
+    label: &str,
     disk: &mut MemoryDisk,
-    place: Place,
+    is_log: bool,
     windows: u8,
-) -> Result<u64, Fault> {
-    lay(alloc, disk, place, windows)?;
+) -> Result<(), Fault> {
+    if is_log {
+        lay_log(alloc, disk, windows)?;
+    } else {
+        lay_blocks(alloc, disk, windows)?;
+    }
+    let points = windows as u64 * 100_000;
     let mut least = u64::MAX;
     for _ in 0..ROUNDS {
-        least = least.min(time_recovery(rt, alloc, disk, points_of(windows))?);
+        least = least.min(time_recovery(rt, alloc, disk, points)?);
     }
-    Ok(least)
+    let rate = tenths(points.saturating_mul(1_000_000_000), least);
+    let figures = [tenths(least, 1_000_000), tenths(least, points), rate];
+    print_row(rt, label, &[], &figures)
 }
 
-fn measure_store<R: Clock>(
-    rt: &R,
-    alloc: Global,
-    label: &'static str,
-    place: Place,
-    windows: u8,
-) -> Result<Row, Fault> {
-    let mut disk = MemoryDisk::new(alloc);
-    let nanos = fastest_recovery(rt, alloc, &mut disk, place, windows)?;
-    let points = points_of(windows);
-    let rate = tenths(points.saturating_mul(1_000_000_000), nanos);
-    Ok(Row::new(
-        label,
-        [tenths(nanos, 1_000_000), tenths(nanos, points), rate, 0, 0],
-    ))
-}
+/// The rows: where the points of a store stand, and in how many windows.
+const ROWS: [(&str, bool, u8); 4] = [
+    ("log, 100,000", true, 1),
+    ("log, 1,000,000", true, 10),
+    ("blocks, 100,000", false, 1),
+    ("blocks, 1,000,000", false, 10),
+];
 
 /// A log and block files, each with a hundred thousand points and with a million.
-pub fn measure<R: Clock>(rt: &R, alloc: Global) -> Result<Report, Fault> {
-    let mut report = Report::new(
-        "recovery",
-        &["ms a recovery", "ns a point", "points a second"],
-    );
-    report.add(measure_store(rt, alloc, "log, 100,000", Place::Log, SHORT)?);
-    report.add(measure_store(rt, alloc, "log, 1,000,000", Place::Log, LONG)?);
-    report.add(measure_store(rt, alloc, "blocks, 100,000", Place::Blocks, SHORT)?);
-    report.add(measure_store(rt, alloc, "blocks, 1,000,000", Place::Blocks, LONG)?);
-    Ok(report)
+pub fn measure<R: Clock + Print>(rt: &R, alloc: Global) -> Result<(), Fault> {
+    let columns = ["ms a recovery", "ns a point", "points a second"];
+    print_row(rt, "recovery", &columns, &[])?;
+    for (label, is_log, windows) in ROWS {
+        let mut disk = MemoryDisk::new(alloc);
+        measure_store(rt, alloc, label, &mut disk, is_log, windows)?;
+    }
+    Ok(())
 }

@@ -1,28 +1,7 @@
-//! A table of figures.
+//! Tables of figures, printed row by row, and what rounds took.
 use crate::fault::Fault;
 use std::io;
 use std::time::{Clock, Instant};
-
-/// The most figures of a row, and the most rows of a table.
-const FIGURES: usize = 5;
-
-const ROWS: usize = 6;
-
-/// A row: what was measured, and its figures, in tenths.
-#[derive(Clone, Copy)]
-pub struct Row {
-    label: &'static str,
-    tenths: [u64; FIGURES],
-}
-
-/// A table of figures under its head.
-#[derive(Clone, Copy)]
-pub struct Report {
-    title: &'static str,
-    columns: &'static [&'static str],
-    rows: [Row; ROWS],
-    count: usize,
-}
 
 /// What a round took, way by way, in nanoseconds, and the size of what it made; or the least of some rounds, and all sizes.
 #[derive(Clone, Copy)]
@@ -60,57 +39,36 @@ pub fn tenths(total: u64, count: u64) -> u64 {
     total.saturating_mul(10) / count.max(1)
 }
 
-impl Row {
-    /// A row with its figures, in tenths. A table with fewer columns does not print the last of them.
-    pub fn new(label: &'static str, tenths: [u64; FIGURES]) -> Row {
-        Row { label, tenths }
-    }
-}
-
-impl Report {
-    /// A table with no rows yet.
-    pub fn new(title: &'static str, columns: &'static [&'static str]) -> Report {
-        Report {
-            title,
-            columns,
-            rows: [Row::new("", [0; FIGURES]); ROWS],
-            count: 0,
-        }
-    }
-
-    /// Adds a row, of which a table has at most six.
-    pub fn add(&mut self, row: Row) {
-        let at = self.count;
-        if let Some(place) = self.rows.get_mut(at) {
-            *place = row;
-            self.count = at.saturating_add(1);
-        }
-    }
-
-    /// Prints the table.
-    pub fn print<P: Print>(&self, rt: &P) -> io::Result<()> {
-        let title = self.title;
-        print!(rt; "{title:<26}")?;
-        for column in self.columns {
-            print!(rt; "{column:>20}")?;
-        }
-        println!(rt; "")?;
-        for row in self.rows.iter().take(self.count) {
-            print_row(rt, row, self.columns.len())?;
-        }
-        println!(rt; "")
-    }
-}
-
-fn print_row<P: Print>(rt: &P, row: &Row, columns: usize) -> io::Result<()> {
-    let label = row.label;
+/// Prints a line of a table: its label, then the names of columns, or figures in tenths.
+fn print_line<P: Print>(
+    rt: &P,
+    label: &str,
+    columns: &[&'static str],
+    figures: &[u64],
+) -> io::Result<()> {
     print!(rt; "{label:<26}")?;
-    for tenths in row.tenths.iter().take(columns) {
-        let whole = *tenths / 10;
-        let tenth = *tenths % 10;
+    for column in columns {
+        print!(rt; "{column:>20}")?;
+    }
+    for figure in figures {
+        let whole = *figure / 10;
+        let tenth = *figure % 10;
         print!(rt; "{whole:>18}.{tenth}")?;
     }
     println!(rt; "")
+}
+
+/// Prints a line of a table: its head with the names of its columns, or a row with its figures, in tenths.
+pub fn print_row<P: Print>(
+    rt: &P,
+    label: &str,
+    columns: &[&'static str],
+    figures: &[u64],
+) -> Result<(), Fault> {
+    match print_line(rt, label, columns, figures) {
+        Ok(()) => Ok(()),
+        Err(_) => Err(Fault::Output),
+    }
 }
 
 /// The clock's time now.

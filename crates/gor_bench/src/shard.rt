@@ -6,8 +6,8 @@ ghost use Rattle.gor_text.specs.Workloads.{phase_lines};
 ghost use Rattle.gor_bench.specs.Puts.{IsSmall};
 
 use crate::fault::Fault;
-use crate::phases::{Load, Served, read_phase, run_phases, text_of_gets, text_of_puts};
-use crate::report::{Report, Row, tenths};
+use crate::phases::{Load, Served, push_gets, push_puts, read_phase, run_phases};
+use crate::report::{print_row, tenths};
 use gor_disk::{Disk, MemoryDisk};
 use gor_text::Phase;
 use std::alloc::{AllocError, Global};
@@ -45,27 +45,8 @@ fn memory_disks(alloc: Global) -> Result<Vec<MemoryDisk>, AllocError>
     ]?)
 }
 
-/// Runs the lanes on a new shard. Each put has to be stored or late, and each get has to have two hours of points.
-fn time_lanes<R: Threads + Wait + Sync + Clock>(
-    rt: &R,
-    alloc: Global,
-    lanes: u32,
-    puts: &Phase,
-    gets: &Phase,
-) -> Result<Served, Fault>
-    requires puts { IsSmall (phase_lines puts.now) }
-    requires gets { IsSmall (phase_lines gets.now) }
-{
-    let served = run_phases(rt, alloc, memory_disks(alloc)?, puts, gets)?.served;
-    let put = served.puts.stored.saturating_add(served.puts.late);
-    if put == PUTS as u64 * lanes as u64 && served.gets.full == GETS as u64 * lanes as u64 {
-        Ok(served)
-    } else {
-        Err(Fault::Wrong)
-    }
-}
-
-/// The nanoseconds of the puts and of the gets of all lanes, each in its fastest round.
+/// The nanoseconds of the puts and of the gets of all lanes, each in its fastest round on a new shard. Each put has to be stored
+/// or late, and each get has to have two hours of points.
 fn fastest_lanes<R: Threads + Wait + Sync + Clock>(
     rt: &R,
     alloc: Global,
@@ -78,7 +59,11 @@ fn fastest_lanes<R: Threads + Wait + Sync + Clock>(
 {
     let (mut put, mut get) = (u64::MAX, u64::MAX);
     for _ in 0..ROUNDS {
-        let served = time_lanes(rt, alloc, lanes, puts, gets)?;
+        let served = run_phases(rt, alloc, memory_disks(alloc)?, puts, gets)?.served;
+        let told = served.puts.stored.saturating_add(served.puts.late);
+        if told != PUTS as u64 * lanes as u64 || served.gets.full != GETS as u64 * lanes as u64 {
+            return Err(Fault::Wrong);
+        }
         put = put.min(served.put_nanos);
         get = get.min(served.get_nanos);
     }
@@ -88,25 +73,27 @@ fn fastest_lanes<R: Threads + Wait + Sync + Clock>(
 fn phase_of_puts(alloc: Global, load: Load) -> Result<Phase, Fault>
     ensures { IfOk result (λ phase. IsSmall (phase_lines phase)) }
 {
-    let text = text_of_puts(alloc, load)?;
+    let mut text = Vec::new(alloc);
+    push_puts(alloc, &mut text, load)?;
     read_phase(alloc, &text)
 }
 
 fn phase_of_gets(alloc: Global, load: Load) -> Result<Phase, Fault>
     ensures { IfOk result (λ phase. IsSmall (phase_lines phase)) }
 {
-    let text = text_of_gets(alloc, load, GETS.saturating_mul(load.lanes))?;
+    let mut text = Vec::new(alloc);
+    push_gets(alloc, &mut text, load, GETS.saturating_mul(load.lanes))?;
     read_phase(alloc, &text)
 }
 
 /// A row of so many lanes: the time of a lane's put and get, and the time from put to put and from get to get of all lanes.
-fn measure_lanes<R: Threads + Wait + Sync + Clock>(
+fn measure_lanes<R: Threads + Wait + Sync + Clock + Print>(
     rt: &R,
     alloc: Global,
-    label: &'static str,
+    label: &str,
     lanes: u32,
     names: u32,
-) -> Result<Row, Fault> {
+) -> Result<(), Fault> {
     let load = Load {
         lanes,
         names,
@@ -119,28 +106,33 @@ fn measure_lanes<R: Threads + Wait + Sync + Clock>(
     let (each_put, each_get) = (PUTS as u64, GETS as u64);
     let all_puts = tenths(put, each_put * lanes as u64);
     let all_gets = tenths(get, each_get * lanes as u64);
-    Ok(Row::new(
-        label,
-        [
-            tenths(put, each_put),
-            tenths(get, each_get),
-            all_puts,
-            all_gets,
-            0,
-        ],
-    ))
+    let figures = [
+        tenths(put, each_put),
+        tenths(get, each_get),
+        all_puts,
+        all_gets,
+    ];
+    print_row(rt, label, &[], &figures)
 }
 
+/// The rows: their lanes and names.
+const ROWS: [(&str, u32, u32); 5] = [
+    ("1 thread", 1, 1),
+    ("2 threads, 2 names", 2, 2),
+    ("4 threads, 4 names", 4, 4),
+    ("2 threads, 1 name", 2, 1),
+    ("4 threads, 1 name", 4, 1),
+];
+
 /// One thread, then two and four with a name for each, then two and four with one name for all.
-pub fn measure<R: Threads + Wait + Sync + Clock>(rt: &R, alloc: Global) -> Result<Report, Fault> {
-    let mut report = Report::new(
-        "shard",
-        &["ns a put", "ns a get", "ns a put of all", "ns a get of all"],
-    );
-    report.add(measure_lanes(rt, alloc, "1 thread", 1, 1)?);
-    report.add(measure_lanes(rt, alloc, "2 threads, 2 names", 2, 2)?);
-    report.add(measure_lanes(rt, alloc, "4 threads, 4 names", 4, 4)?);
-    report.add(measure_lanes(rt, alloc, "2 threads, 1 name", 2, 1)?);
-    report.add(measure_lanes(rt, alloc, "4 threads, 1 name", 4, 1)?);
-    Ok(report)
+pub fn measure<R: Threads + Wait + Sync + Clock + Print>(
+    rt: &R,
+    alloc: Global,
+) -> Result<(), Fault> {
+    let columns = ["ns a put", "ns a get", "ns a put of all", "ns a get of all"];
+    print_row(rt, "shard", &columns, &[])?;
+    for (label, lanes, names) in ROWS {
+        measure_lanes(rt, alloc, label, lanes, names)?;
+    }
+    Ok(())
 }

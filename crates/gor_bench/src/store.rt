@@ -3,10 +3,10 @@ ghost use Rattle.gor_text.specs.Workloads.{phase_lines};
 ghost use Rattle.gor_bench.specs.Puts.{IsSmall};
 
 use crate::fault::Fault;
-use crate::phases::{Load, read_phase, run_phases, text_of_puts};
-use crate::report::{Report, Row, nanos_since, now, tenths};
+use crate::phases::{Load, push_puts, read_phase, run_phases};
+use crate::report::{nanos_since, now, print_row, tenths};
 use crate::timed::TimedDisk;
-use gor_folder::{FolderDisk, shard_disk};
+use gor_folder::{FolderDisk, store_disks};
 use gor_text::Phase;
 use std::alloc::AllocError;
 use std::fs;
@@ -29,18 +29,16 @@ const FOLDER: &str = "bench_store";
 /// A disk of a store in a folder, with the time that its syncs take.
 type StoreDisk = TimedDisk<FolderDisk<HostRuntime>, HostRuntime>;
 
-fn push_disk(host: &HostRuntime, disks: &mut Vec<StoreDisk>, shard: u32) -> Result<(), AllocError> {
-    let clock = host.clone()?;
-    let disk = shard_disk(host, FOLDER, shard)?;
-    disks.push(TimedDisk::new(disk, clock))?;
-    Ok(())
-}
-
 /// The disks of a store, of which the first alone is called.
 fn disks_in(host: &HostRuntime) -> Result<Vec<StoreDisk>, AllocError> {
     let mut disks = Vec::new(host.alloc());
-    for shard in 0..16u32 {
-        push_disk(host, &mut disks, shard)?;
+    for disk in store_disks(host, FOLDER)? {
+        disks.push(TimedDisk {
+            disk,
+            clock: host.clone()?,
+            syncs: 0,
+            nanos: 0,
+        })?;
     }
     Ok(disks)
 }
@@ -67,7 +65,7 @@ fn run_puts<R: Threads + Wait + Sync + Clock>(
 {
     let ended = run_phases(rt, host.alloc(), disks_in(host)?, puts, none)?;
     match ended.disks.first() {
-        Some(disk) if ended.served.puts.stored == PUTS as u64 => Ok((disk.nanos(), disk.syncs())),
+        Some(disk) if ended.served.puts.stored == PUTS as u64 => Ok((disk.nanos, disk.syncs)),
         _ => Err(Fault::Wrong),
     }
 }
@@ -92,27 +90,23 @@ fn run_text<R: Threads + Wait + Sync + Clock>(
     })
 }
 
-/// Runs a text in a folder of its own, which is gone before and after.
-fn run_in_folder<R: Threads + Wait + Sync + Clock>(
-    rt: &R,
-    host: &HostRuntime,
-    text: &[u8],
-) -> Result<Run, Fault> {
-    let _ = fs::remove_dir_all(host, FOLDER);
-    let run = run_text(rt, host, text);
-    let _ = fs::remove_dir_all(host, FOLDER);
-    run
-}
-
-/// The fastest of some rounds.
+/// The fastest of some rounds, each in a folder of its own, which is gone before and after.
 fn fastest_run<R: Threads + Wait + Sync + Clock>(
     rt: &R,
     host: &HostRuntime,
     text: &[u8],
 ) -> Result<Run, Fault> {
-    let mut fastest = run_in_folder(rt, host, text)?;
-    for _ in 1..ROUNDS {
-        let run = run_in_folder(rt, host, text)?;
+    let mut fastest = Run {
+        whole: u64::MAX,
+        reading: 0,
+        syncing: 0,
+        syncs: 0,
+    };
+    for _ in 0..ROUNDS {
+        let _ = fs::remove_dir_all(host, FOLDER);
+        let run = run_text(rt, host, text);
+        let _ = fs::remove_dir_all(host, FOLDER);
+        let run = run?;
         if run.whole < fastest.whole {
             fastest = run;
         }
@@ -120,43 +114,47 @@ fn fastest_run<R: Threads + Wait + Sync + Clock>(
     Ok(fastest)
 }
 
-fn measure_lanes<R: Threads + Wait + Sync + Clock>(
+/// A row: the puts on so many lanes.
+fn measure_lanes<R: Threads + Wait + Sync + Clock + Print>(
     rt: &R,
     host: &HostRuntime,
-    label: &'static str,
+    label: &str,
     lanes: u32,
-) -> Result<Row, Fault> {
+) -> Result<(), Fault> {
     let load = Load {
         lanes,
         names: SERIES,
         lines: SERIES,
         minutes: MINUTES,
     };
-    let text = text_of_puts(host.alloc(), load)?;
+    let mut text = Vec::new(host.alloc());
+    push_puts(host.alloc(), &mut text, load)?;
     let run = fastest_run(rt, host, &text)?;
     let puts = PUTS as u64;
     let rate = tenths(puts * 1_000_000_000, run.whole);
     let share = tenths(run.syncing.saturating_mul(100), run.whole);
     let (put, read) = (tenths(run.whole, puts), tenths(run.reading, puts));
-    Ok(Row::new(label, [rate, put, read, share, tenths(run.syncs, 1)]))
+    print_row(
+        rt,
+        label,
+        &[],
+        &[rate, put, read, share, tenths(run.syncs, 1)],
+    )
 }
 
 /// The same puts on one lane and on four.
-pub fn measure<R: Threads + Wait + Sync + Clock>(
+pub fn measure<R: Threads + Wait + Sync + Clock + Print>(
     rt: &R,
     host: &HostRuntime,
-) -> Result<Report, Fault> {
-    let mut report = Report::new(
-        "store",
-        &[
-            "puts a second",
-            "ns a put",
-            "ns a put read",
-            "% in syncs",
-            "syncs",
-        ],
-    );
-    report.add(measure_lanes(rt, host, "1 lane", 1)?);
-    report.add(measure_lanes(rt, host, "4 lanes", 4)?);
-    Ok(report)
+) -> Result<(), Fault> {
+    let columns = [
+        "puts a second",
+        "ns a put",
+        "ns a put read",
+        "% in syncs",
+        "syncs",
+    ];
+    print_row(rt, "store", &columns, &[])?;
+    measure_lanes(rt, host, "1 lane", 1)?;
+    measure_lanes(rt, host, "4 lanes", 4)
 }

@@ -9,7 +9,7 @@ ghost use Rattle.gor_bench.specs.Turns.{IsIdle};
 
 use crate::fault::Fault;
 use crate::first::{FourSeries, Value, first_values};
-use crate::report::{Report, Row, nanos_since, now, tenths};
+use crate::report::{nanos_since, now, print_row, tenths};
 use gor_hall::{Hall, Opened, Pass, Unopened};
 use gor_rule::Says;
 use std::alloc::{AllocError, Global};
@@ -158,62 +158,53 @@ fn time_turns<R: Threads + Wait + Sync + Clock>(
     lanes: u32,
     is_shared: bool,
     marks: bool,
-) -> Result<u64, Fault>
-    requires { (1 ≤ lanes) × (lanes ≤ 16) }
-{
+) -> Result<u64, Fault> {
+    if lanes == 0 || lanes > 16 {
+        return Err(Fault::Wrong);
+    }
     let events = TURNS as u64 * lanes as u64;
     let wanted = if marks { events } else { 0 };
     let Opened { hall, mut passes } = open(alloc, lanes)?;
     time_all(rt, &hall, passes.as_mut_slice(), is_shared, marks, wanted)
 }
 
-/// The nanoseconds of the fastest of some rounds.
-fn fastest_turns<R: Threads + Wait + Sync + Clock>(
+/// A row of so many lanes, each figure in its fastest round: a lane's turn, and the time from event to event of all lanes.
+fn measure_lanes<R: Threads + Wait + Sync + Clock + Print>(
     rt: &R,
     alloc: Global,
+    label: &str,
     lanes: u32,
     is_shared: bool,
-    marks: bool,
-) -> Result<u64, Fault>
-    requires { (1 ≤ lanes) × (lanes ≤ 16) }
-{
-    let mut least = u64::MAX;
+) -> Result<(), Fault> {
+    let (mut bare, mut marked) = (u64::MAX, u64::MAX);
     for _ in 0..ROUNDS {
-        least = least.min(time_turns(rt, alloc, lanes, is_shared, marks)?);
+        bare = bare.min(time_turns(rt, alloc, lanes, is_shared, false)?);
+        marked = marked.min(time_turns(rt, alloc, lanes, is_shared, true)?);
     }
-    Ok(least)
-}
-
-/// A row of so many lanes: the time of a lane's turn, and the time from event to event of all lanes.
-fn measure_lanes<R: Threads + Wait + Sync + Clock>(
-    rt: &R,
-    alloc: Global,
-    label: &'static str,
-    lanes: u32,
-    is_shared: bool,
-) -> Result<Row, Fault>
-    requires { (1 ≤ lanes) × (lanes ≤ 16) }
-{
-    let bare = fastest_turns(rt, alloc, lanes, is_shared, false)?;
-    let marked = fastest_turns(rt, alloc, lanes, is_shared, true)?;
     let turns = TURNS as u64;
     let all = tenths(marked, turns * lanes as u64);
-    Ok(Row::new(
-        label,
-        [tenths(bare, turns), tenths(marked, turns), all, 0, 0],
-    ))
+    let figures = [tenths(bare, turns), tenths(marked, turns), all];
+    print_row(rt, label, &[], &figures)
 }
 
+/// The rows: their lanes, and whether all lanes want one series.
+const ROWS: [(&str, u32, bool); 5] = [
+    ("1 thread", 1, false),
+    ("2 threads, 2 series", 2, false),
+    ("4 threads, 4 series", 4, false),
+    ("2 threads, 1 series", 2, true),
+    ("4 threads, 1 series", 4, true),
+];
+
 /// One thread, then two and four with a series for each, then two and four with one series for all.
-pub fn measure<R: Threads + Wait + Sync + Clock>(rt: &R, alloc: Global) -> Result<Report, Fault> {
-    let mut report = Report::new(
-        "table",
-        &["ns a take, give", "ns with its mark", "ns an event of all"],
-    );
-    report.add(measure_lanes(rt, alloc, "1 thread", 1, false)?);
-    report.add(measure_lanes(rt, alloc, "2 threads, 2 series", 2, false)?);
-    report.add(measure_lanes(rt, alloc, "4 threads, 4 series", 4, false)?);
-    report.add(measure_lanes(rt, alloc, "2 threads, 1 series", 2, true)?);
-    report.add(measure_lanes(rt, alloc, "4 threads, 1 series", 4, true)?);
-    Ok(report)
+pub fn measure<R: Threads + Wait + Sync + Clock + Print>(
+    rt: &R,
+    alloc: Global,
+) -> Result<(), Fault> {
+    let columns = ["ns a take, give", "ns with its mark", "ns an event of all"];
+    print_row(rt, "table", &columns, &[])?;
+    for (label, lanes, is_shared) in ROWS {
+        measure_lanes(rt, alloc, label, lanes, is_shared)?;
+    }
+    Ok(())
 }

@@ -1,6 +1,4 @@
 //! A disk that measures its syncs.
-ghost use Rattle.std.specs.Prelude.{◌≡◌};
-
 use crate::report::{nanos_since, now};
 use gor_disk::{Disk, DiskFailed, FileId};
 use std::time::Clock;
@@ -8,40 +6,12 @@ use std::time::Clock;
 /// A disk, with the time that its syncs took. It tells what the disk tells, and its faults are the disk's.
 #[derive(Drop)]
 pub struct TimedDisk<D: Disk, C: Clock + Drop> {
-    disk: D,
-    clock: C,
-    syncs: u64,
-    nanos: u64,
-}
-
-impl<D: Disk, C: Clock + Drop> TimedDisk<D, C> {
-    /// A disk that has made nothing stable yet.
-    pub fn new(disk: D, clock: C) -> TimedDisk<D, C>
-        ensures disk { result.disk ≡ disk }
-        ensures syncs { result.syncs ≡ 0 }
-        ensures nanos { result.nanos ≡ 0 }
-    {
-        TimedDisk {
-            disk,
-            clock,
-            syncs: 0,
-            nanos: 0,
-        }
-    }
-
+    pub disk: D,
+    pub clock: C,
     /// How often it was asked to make a file stable.
-    pub fn syncs(&self) -> u64
-        ensures { result ≡ self.now.syncs }
-    {
-        self.syncs
-    }
-
+    pub syncs: u64,
     /// The nanoseconds that its syncs took; one whose time is not known has none.
-    pub fn nanos(&self) -> u64
-        ensures { result ≡ self.now.nanos }
-    {
-        self.nanos
-    }
+    pub nanos: u64,
 }
 
 impl<D: Disk, C: Clock + Drop> Disk for TimedDisk<D, C> {

@@ -16,20 +16,13 @@ pub enum Kind {
     Random,
 }
 
-/// Each kind, in the order in which it is printed.
-pub const KINDS: [Kind; 4] = [Kind::Constant, Kind::Counter, Kind::Gauge, Kind::Random];
-
-impl Kind {
-    /// What a row of its figures begins with.
-    pub fn label(self) -> &'static str {
-        match self {
-            Kind::Constant => "constant words",
-            Kind::Counter => "counter words",
-            Kind::Gauge => "gauge words",
-            Kind::Random => "random words",
-        }
-    }
-}
+/// Each kind, in the order in which it is printed, with what a row of its figures begins with.
+pub const KINDS: [(Kind, &str); 4] = [
+    (Kind::Constant, "constant words"),
+    (Kind::Counter, "counter words"),
+    (Kind::Gauge, "gauge words"),
+    (Kind::Random, "random words"),
+];
 
 /// A series of words of one kind, the same in each run.
 #[derive(Clone, Copy)]
@@ -55,17 +48,12 @@ impl Series {
         }
     }
 
-    /// The next number with no order in it: a step of splitmix64.
-    fn draw(&mut self) -> u64 {
+    /// The next word. What is drawn for it is a step of splitmix64.
+    pub fn word(&mut self) -> u64 {
         self.seed = self.seed.wrapping_add(0x9e37_79b9_7f4a_7c15);
         let first = (self.seed ^ (self.seed >> 30)).wrapping_mul(0xbf58_476d_1ce4_e5b9);
         let second = (first ^ (first >> 27)).wrapping_mul(0x94d0_49bb_1331_11eb);
-        second ^ (second >> 31)
-    }
-
-    /// The next word.
-    pub fn word(&mut self) -> u64 {
-        let drawn = self.draw();
+        let drawn = second ^ (second >> 31);
         match self.kind {
             Kind::Constant => double_bits(12, 1.0),
             Kind::Counter => {
@@ -92,4 +80,15 @@ impl Series {
         }
         Ok(())
     }
+}
+
+/// What words make together with times that are so many seconds apart, of each word the bits of a mask.
+pub fn sum_of(words: &[u64], begin: u64, apart: u64, mask: u64) -> u64 {
+    let mut sum = 0u64;
+    let mut time = begin;
+    for word in words {
+        sum = sum.rotate_left(1) ^ time.wrapping_add(*word & mask);
+        time = time.saturating_add(apart);
+    }
+    sum
 }

@@ -46,7 +46,7 @@ fn lines_that_are_none_are_named(rt: HostRuntime) {
 /// The line of an answer, or nothing for want of memory.
 fn line_of(alloc: Global, what: What) -> Result<Vec<u8>, AllocError> {
     let mut out = Vec::new(alloc);
-    write_answer(alloc, &mut out, &LaneAnswer { lane: 3, what })?;
+    write_answer(&mut out, &LaneAnswer { lane: 3, what })?;
     Ok(out)
 }
 

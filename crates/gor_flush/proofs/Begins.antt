@@ -15,15 +15,15 @@ use Rattle.gor_marks.proofs.MarkLaws.{mark_again}
 use Rattle.gor_image.specs.Records.{Batch}
 use Rattle.gor_image.specs.Grammars.{Reads, and_then, from, mark_at}
 use Rattle.gor_image.specs.Images.{in_file, read_walk, read_batch, read_mark, read_logs, marks_of, mark_after}
-use Rattle.gor_image.specs.Openings.{OnlyRead}
+use Rattle.gor_recover.specs.Openings.{OnlyRead}
 use Rattle.gor_image.specs.Laws.{IsEmptyList, AreClosed}
 use Rattle.gor_image.proofs.FreshHome.{home_is_fresh}
 use Rattle.gor_image.proofs.Pushed.{gated_same, gated_more}
 use Rattle.gor_flush.specs.declared.files.CurrentFiles.{CurrentFiles}
-use Rattle.gor_flush.specs.Steps.{Leaves, IsGone, GoesOn, Keeps}
+use Rattle.gor_image.specs.DiskSteps.{Leaves, IsGone, GoesOn, Keeps}
 use Rattle.gor_flush.specs.Opening.{AreFiles, AreEnsured, AreWhole, Begins, HasEmptyFirst, IsAtRest, IsBegun, IsSameStore, IsUnmarked, is_current, is_first}
 use Rattle.gor_flush.proofs.Ensures.{as_seen, IsThis, This, Another, is_this}
-use Rattle.gor_flush.proofs.Kept.{back_image, put_back}
+use Rattle.gor_image.proofs.Kept.{back_image, put_back}
 use Rattle.gor_flush.proofs.Steps.{leaves_goes, goes_then, keeps_then, reads_goes, reads_keep, runs_goes, runs_keep, same_contents}
 
 -- ---- the first files are emptied

@@ -7,9 +7,9 @@ use Rattle.gor_disk.specs.Disk.{DiskView, Touches}
 use Rattle.gor_marks.specs.declared.mark.Mark.{Mark}
 use Rattle.gor_marks.specs.declared.mark.Mark.TheVariants.{Home, Sealed}
 use Rattle.gor_image.specs.Images.{base_of, first_log_of, or_zero}
-use Rattle.gor_image.specs.Recovered.{MayFollow}
-use Rattle.gor_flush.specs.ReadFiles.{is_replaced}
-use Rattle.gor_flush.specs.Steps.{Leaves, IsGone}
+use Rattle.gor_image.specs.MarkLists.{MayFollow}
+use Rattle.gor_image.specs.ReadFiles.{is_replaced}
+use Rattle.gor_image.specs.DiskSteps.{Leaves, IsGone}
 use Rattle.gor_flush.specs.Dropping.{AreDropped, is_log_in, is_block_of, is_this_list}
 use Rattle.gor_flush.proofs.Steps.{from_touches, leaves_then, leaves_gone, leaves_more}
 use Rattle.gor_flush.proofs.Drops.{LogsGone}

@@ -9,7 +9,7 @@ use Rattle.gor_disk.specs.declared.disk.FileId.{FileId}
 use Rattle.gor_disk.specs.declared.disk.FileId.TheVariants.{Marks, Keys, Log, Block}
 use Rattle.gor_disk.specs.Disk.{DiskView, Touches}
 use Rattle.gor_marks.specs.declared.mark.Mark.{Mark}
-use Rattle.gor_flush.specs.Steps.{Leaves, IsGone}
+use Rattle.gor_image.specs.DiskSteps.{Leaves, IsGone}
 use Rattle.gor_flush.specs.Dropping.{is_log_in, is_block_of, drops}
 use Rattle.gor_flush.proofs.Steps.{from_touches, leaves_gone, leaves_more}
 

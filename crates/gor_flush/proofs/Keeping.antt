@@ -8,7 +8,7 @@ use Rattle.gor_model.specs.declared.event.Change.{Change}
 use Rattle.gor_model.specs.declared.start.Start.{Start}
 use Rattle.gor_model.specs.Shares.{DoneAt}
 use Rattle.gor_journal.specs.declared.buffers.Buffers.{Buffers}
-use Rattle.gor_image.specs.declared.recovered.LogTop.{LogTop}
+use Rattle.gor_recover.specs.declared.recovered.LogTop.{LogTop}
 use Rattle.gor_flush.specs.Devices.{Shown, HoldsPrefix, Prefixes, NoneAbove, Kept, last_count}
 use Rattle.gor_flush.specs.Flushes.{HoldsEither}
 

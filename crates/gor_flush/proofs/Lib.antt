@@ -11,12 +11,10 @@ mod Tops
 mod Touched
 mod Written
 pub mod PartKinds
-pub mod ReadFiles
 pub mod MarkLists
 pub mod Steps
 pub mod Drops
 pub mod Replaced
-pub mod Kept
 pub mod Dropped
 pub mod Results
 pub mod Ensures
@@ -28,3 +26,6 @@ pub mod Opens
 pub mod Stands
 pub mod Recovers
 pub mod FitTests
+pub mod NeededLogs
+pub mod Following
+pub mod TurnedTops

@@ -17,7 +17,7 @@ use Rattle.gor_log.proofs.BodyLaws.{log_again}
 use Rattle.gor_image.specs.Records.{Batch}
 use Rattle.gor_image.specs.declared.fault.ImageFault.{ImageFault}
 use Rattle.gor_image.specs.declared.fault.DamageKind.TheVariants.{Order}
-use Rattle.gor_image.specs.declared.recovered.LogTop.{LogTop}
+use Rattle.gor_recover.specs.declared.recovered.LogTop.{LogTop}
 use Rattle.gor_image.specs.Grammars.{Reads, and_then, from, wrong, log_at, records_placed, batch_placed}
 use Rattle.gor_image.specs.Images.{read_gated, read_batch, read_logs, last_number, current, first_log_of, remaining_logs, put_window, greatest_of, top_of}
 use Rattle.gor_image.specs.ChangeRecords.{log_records_of, batch_of, waiting_after}

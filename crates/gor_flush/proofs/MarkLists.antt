@@ -8,7 +8,7 @@ use Rattle.gor_marks.specs.declared.mark.Mark.{Mark}
 use Rattle.gor_marks.specs.declared.mark.Mark.TheVariants.{Home, Sealed}
 use Rattle.gor_image.specs.Images.{current, base_of, first_log_of, or_zero, sealed_window, sealed_first_log, live_windows}
 use Rattle.gor_image.specs.Recovery.{is_above}
-use Rattle.gor_image.specs.Recovered.{MayFollow, AllFollow, AreMarks, AreMarksOrNone}
+use Rattle.gor_image.specs.MarkLists.{MayFollow, AllFollow, AreMarks, AreMarksOrNone}
 use Rattle.gor_flush.specs.Dropping.{AreSomeMarks}
 use Rattle.gor_image.proofs.ReadBack.{unless, not_false}
 

@@ -5,16 +5,16 @@ use Rattle.std.proofs.lemmas.Bool.{cases_lt}
 use Rattle.gor_disk.specs.Disk.{DiskView, Contents, IsImage, NothingPending, LeavesSince}
 use Rattle.gor_marks.specs.declared.mark.Mark.{Mark}
 use Rattle.gor_image.specs.declared.fault.ImageFault.{ImageFault}
-use Rattle.gor_image.specs.declared.recovered.Recovered.{Recovered}
+use Rattle.gor_recover.specs.declared.recovered.Recovered.{Recovered}
 use Rattle.gor_image.specs.Recovery.{ShardMap}
 use Rattle.gor_image.specs.Grammars.{and_then}
 use Rattle.gor_image.specs.Holding.{start_of}
 use Rattle.gor_image.specs.Fit.{IsFitFor, FitHolds}
 use Rattle.gor_flush.specs.Found.{Found}
 use Rattle.gor_image.specs.Images.{marks_of, map_of, map_of_marks, fresh_map}
-use Rattle.gor_image.specs.Openings.{OnlyRead}
+use Rattle.gor_recover.specs.Openings.{OnlyRead}
 use Rattle.gor_image.proofs.Openings.{begins_itself, no_mark_is_fresh}
-use Rattle.gor_flush.specs.Steps.{GoesOn}
+use Rattle.gor_image.specs.DiskSteps.{GoesOn}
 use Rattle.gor_flush.specs.Opening.{HoldsOn, WasFound}
 use Rattle.gor_flush.proofs.Ensures.{as_seen}
 use Rattle.gor_flush.proofs.Steps.{reads_keep, same_contents}

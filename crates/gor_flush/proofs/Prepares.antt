@@ -10,7 +10,7 @@ use Rattle.gor_gate.specs.Gates.{gates}
 use Rattle.gor_marks.specs.declared.mark.Mark.{Mark}
 use Rattle.gor_marks.specs.declared.mark.Mark.TheVariants.{Home}
 use Rattle.gor_image.specs.declared.fault.ImageFault.{ImageFault}
-use Rattle.gor_image.specs.declared.recovered.LogTop.{LogTop}
+use Rattle.gor_recover.specs.declared.recovered.LogTop.{LogTop}
 use Rattle.gor_image.specs.Records.{Batch, Files}
 use Rattle.gor_image.specs.Recovery.{ShardMap}
 use Rattle.gor_image.specs.Grammars.{Reads, and_then}
@@ -23,11 +23,10 @@ use Rattle.gor_image.proofs.Openings.{begins_itself, no_mark_is_fresh}
 use Rattle.gor_image.proofs.Pushed.{in_file_ok}
 use Rattle.gor_image.proofs.ReadBack.{only_where, after_ok}
 use Rattle.gor_image.proofs.FitStands.{marks_within}
-use Rattle.gor_flush.specs.Dropping.{KeepsBefore}
-use Rattle.gor_flush.specs.ReadFiles.{ReadsAs}
+use Rattle.gor_image.specs.ReadFiles.{KeepsBefore, ReadsAs}
 use Rattle.gor_flush.specs.Opening.{AreWhole, Begins, HoldsOn, IsBegun, IsFresh, IsOpened, IsStore, IsUnmarked, is_current}
 use Rattle.gor_flush.proofs.Ensures.{as_seen}
-use Rattle.gor_flush.proofs.ReadFiles.{same_logs}
+use Rattle.gor_image.proofs.ReadFiles.{same_logs}
 use Rattle.gor_flush.proofs.Steps.{same_contents}
 
 -- ---- what can be read is whole

@@ -4,12 +4,12 @@ use Rattle.std.specs.Prelude.{Ok}
 use Rattle.std.specs.List.{AllByRecursion}
 use Rattle.gor_disk.specs.Disk.{Contents}
 use Rattle.gor_marks.specs.declared.mark.Mark.{Mark}
-use Rattle.gor_image.specs.declared.recovered.LogTop.{LogTop}
-use Rattle.gor_image.specs.declared.recovered.Recovered.{Recovered}
+use Rattle.gor_recover.specs.declared.recovered.LogTop.{LogTop}
+use Rattle.gor_recover.specs.declared.recovered.Recovered.{Recovered}
 use Rattle.gor_image.specs.Records.{Batch}
 use Rattle.gor_image.specs.Images.{read_logs, remaining_logs, top_of}
-use Rattle.gor_image.specs.LogReads.{top_among}
-use Rattle.gor_image.specs.Recovers.{Opens, TopsAre}
+use Rattle.gor_recover.specs.LogReads.{top_among}
+use Rattle.gor_recover.specs.Recovers.{Opens, TopsAre}
 use Rattle.gor_flush.specs.Found.{Found}
 
 all_among : (batches : List Batch) (logs : List ℕ) → AllByRecursion (λ (t : LogTop). t.top ≡ top_of t.log batches) (map (top_among batches) logs)

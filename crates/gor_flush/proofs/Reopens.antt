@@ -13,16 +13,16 @@ use Rattle.gor_model.specs.declared.event.Change.{Change}
 use Rattle.gor_model.specs.declared.start.Start.{Start}
 use Rattle.gor_marks.specs.declared.mark.Mark.{Mark}
 use Rattle.gor_image.specs.Images.{current, first_log_of}
-use Rattle.gor_image.specs.Openings.{OnlyRead}
+use Rattle.gor_recover.specs.Openings.{OnlyRead}
 use Rattle.gor_image.specs.Laws.{IsBefore, AreClosed}
 use Rattle.gor_flush.specs.declared.files.CurrentFiles.{CurrentFiles}
-use Rattle.gor_flush.specs.ReadFiles.{is_read, is_replaced, ReadAlike, ReadsAs}
-use Rattle.gor_flush.specs.Steps.{Leaves, GoesOn}
-use Rattle.gor_flush.specs.Dropping.{AreSomeMarks, AreDropped, KeepsBefore}
+use Rattle.gor_image.specs.ReadFiles.{is_read, is_replaced, ReadAlike, ReadsAs, KeepsBefore}
+use Rattle.gor_image.specs.DiskSteps.{Leaves, GoesOn}
+use Rattle.gor_flush.specs.Dropping.{AreSomeMarks, AreDropped}
 use Rattle.gor_flush.specs.Opening.{AreFiles, AreEnsured, is_current, IsSameStore, IsAtRest}
-use Rattle.gor_flush.proofs.ReadFiles.{reads_hold, store}
+use Rattle.gor_image.proofs.ReadFiles.{reads_hold, store}
 use Rattle.gor_flush.proofs.Steps.{reads_keep, leaves_settled, gone_settled, runs_keep, keeps_then}
-use Rattle.gor_flush.proofs.Kept.{alike, read_not_replaced}
+use Rattle.gor_image.proofs.Kept.{alike, read_not_replaced}
 use Rattle.gor_flush.proofs.MarkLists.{log_within}
 
 -- a file that is appended to is read by its list

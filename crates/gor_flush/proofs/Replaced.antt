@@ -10,8 +10,8 @@ use Rattle.gor_disk.specs.declared.disk.FileId.TheVariants.{Marks, Keys, Log, Bl
 use Rattle.gor_marks.specs.declared.mark.Mark.{Mark}
 use Rattle.gor_marks.specs.declared.mark.Mark.TheVariants.{Home, Sealed}
 use Rattle.gor_image.specs.Images.{current, base_of, first_log_of, or_zero, sealed_window, live_windows}
-use Rattle.gor_image.specs.Recovered.{MayFollow}
-use Rattle.gor_flush.specs.ReadFiles.{is_read, earlier, is_replaced}
+use Rattle.gor_image.specs.MarkLists.{MayFollow}
+use Rattle.gor_image.specs.ReadFiles.{is_read, earlier, is_replaced}
 use Rattle.gor_flush.specs.Dropping.{is_log_in, is_block_of, drops, is_this_list}
 use Rattle.gor_flush.proofs.MarkLists.{current_push, first_log_push, live_push, follows}
 

@@ -11,7 +11,7 @@ use Rattle.gor_model.specs.declared.start.Start.{Start}
 use Rattle.gor_marks.specs.declared.mark.Mark.{Mark}
 use Rattle.gor_journal.specs.declared.buffers.Buffers.{Buffers}
 use Rattle.gor_image.specs.Images.{current, remaining_logs}
-use Rattle.gor_image.specs.declared.recovered.LogTop.{LogTop}
+use Rattle.gor_recover.specs.declared.recovered.LogTop.{LogTop}
 use Rattle.gor_flush.specs.Devices.{ShowTops}
 use Rattle.gor_flush.specs.Flushes.{IsWithin, MayExtend, with_body}
 use Rattle.gor_flush.specs.Writes.{raised}

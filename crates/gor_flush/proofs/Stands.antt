@@ -8,8 +8,8 @@ use Rattle.gor_marks.specs.Spelling.{IsHome}
 use Rattle.gor_model.specs.declared.start.Start.{Start}
 use Rattle.gor_model.specs.Shares.{device_share}
 use Rattle.gor_journal.specs.Bodies.{AreEmpty}
-use Rattle.gor_image.specs.declared.recovered.LogTop.{LogTop}
-use Rattle.gor_image.specs.declared.recovered.Recovered.{Recovered}
+use Rattle.gor_recover.specs.declared.recovered.LogTop.{LogTop}
+use Rattle.gor_recover.specs.declared.recovered.Recovered.{Recovered}
 use Rattle.gor_image.specs.Holding.{start_of}
 use Rattle.gor_image.specs.Fit.{IsFitFor, FitHolds}
 use Rattle.gor_flush.specs.FitTest.{is_fit}
@@ -17,13 +17,14 @@ use Rattle.gor_flush.proofs.FitTests.{fit_is_told}
 use Rattle.gor_flush.specs.Found.{Found}
 use Rattle.gor_image.specs.Images.{current, map_of}
 use Rattle.gor_image.specs.Laws.{IsBefore}
-use Rattle.gor_image.specs.Recovered.{AreMarks, AreMarksOrNone, AreTops, AreBehind, IsRecovered, recovered_start}
+use Rattle.gor_image.specs.MarkLists.{AreMarks, AreMarksOrNone, AreBehind}
+use Rattle.gor_recover.specs.Recovered.{AreTops, IsRecovered, recovered_start}
 use Rattle.gor_flush.specs.declared.files.CurrentFiles.{CurrentFiles}
 use Rattle.gor_flush.specs.Devices.{Shown, StandsFor, HoldsAll, ShowTops}
 use Rattle.gor_flush.specs.Opening.{AreFiles, AreEnsured, HoldsOn, IsOpened}
 use Rattle.gor_flush.specs.Preparing.{device_marks}
 use Rattle.gor_flush.specs.Starts.{opened_start, start_with}
-use Rattle.gor_flush.specs.Steps.{GoesOn}
+use Rattle.gor_image.specs.DiskSteps.{GoesOn}
 use Rattle.gor_flush.proofs.Ensures.{as_seen}
 use Rattle.gor_flush.proofs.Founds.{opened_map}
 use Rattle.gor_flush.proofs.Steps.{same_contents}

@@ -3,8 +3,8 @@ use Rattle.std.proofs.Common.{◌≡◌, ◌≢◌, ⊎_elim, ℕ, ◌<◌, ◌�
 use Rattle.std.proofs.lemmas.Bool.{cases_lt}
 use Rattle.gor_disk.specs.declared.disk.FileId.{FileId}
 use Rattle.gor_disk.specs.Disk.{DiskView, Contents, IsImage, IsSettled, Touches, Runs, held_now, settled}
-use Rattle.gor_flush.specs.Steps.{Leaves, IsGone, GoesOn, Keeps}
-use Rattle.gor_image.specs.Openings.{OnlyRead}
+use Rattle.gor_image.specs.DiskSteps.{Leaves, IsGone, GoesOn, Keeps}
+use Rattle.gor_recover.specs.Openings.{OnlyRead}
 
 module _ (which : FileId → Bool) where
   not_this : (file f : FileId) → which file ≡ true → which f ≡ false → f ≢ file

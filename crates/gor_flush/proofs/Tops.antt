@@ -16,7 +16,7 @@ use Rattle.gor_journal.specs.Records.{point_window, greatest_window}
 use Rattle.gor_image.specs.Records.{Batch}
 use Rattle.gor_image.specs.ChangeRecords.{log_record, log_records_of, waiting_after}
 use Rattle.gor_image.specs.Images.{put_window, greatest_of, top_of}
-use Rattle.gor_image.specs.declared.recovered.LogTop.{LogTop}
+use Rattle.gor_recover.specs.declared.recovered.LogTop.{LogTop}
 use Rattle.gor_flush.specs.Writes.{raised}
 
 -- ---- what the code does

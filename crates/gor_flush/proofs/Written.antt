@@ -23,8 +23,8 @@ use Rattle.gor_journal.specs.Stands.{AreOf}
 use Rattle.gor_image.specs.ChangeRecords.{waiting_after}
 use Rattle.gor_image.specs.Images.{current, remaining_logs}
 use Rattle.gor_image.specs.Laws.{IsBefore}
-use Rattle.gor_image.specs.Recovered.{AreMarks}
-use Rattle.gor_image.specs.declared.recovered.LogTop.{LogTop}
+use Rattle.gor_image.specs.MarkLists.{AreMarks}
+use Rattle.gor_recover.specs.declared.recovered.LogTop.{LogTop}
 use Rattle.gor_flush.specs.Devices.{Shown, HoldsAll, HoldsPrefix, IsRunning, IsSettled, RunsBy, SettledBy, ShowTops, StandsFor, StillBy, last_count}
 use Rattle.gor_flush.specs.Flushes.{HoldsEither, IsWithin, MayExtend, OthersStay, with_body}
 use Rattle.gor_flush.specs.Takes.{share_done, share_stopped}

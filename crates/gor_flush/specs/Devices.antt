@@ -14,8 +14,9 @@ use Rattle.gor_image.specs.Records.{Batch}
 use Rattle.gor_image.specs.Images.{current, remaining_logs, read_logs, top_of}
 use Rattle.gor_image.specs.Fit.{FitHolds}
 use Rattle.gor_image.specs.Laws.{IsBefore}
-use Rattle.gor_image.specs.Recovered.{AreMarks, AreTops, AreBehind}
-use Rattle.gor_image.specs.declared.recovered.LogTop.{LogTop}
+use Rattle.gor_image.specs.MarkLists.{AreMarks, AreBehind}
+use Rattle.gor_recover.specs.Recovered.{AreTops}
+use Rattle.gor_recover.specs.declared.recovered.LogTop.{LogTop}
 use Rattle.gor_flush.specs.declared.device.Device.{Device}
 
 -- Whether the disk tells its contents, what it tells, and how often it has failed. Whose files these are. The gated files

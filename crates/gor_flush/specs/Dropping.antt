@@ -9,9 +9,9 @@ use Rattle.gor_model.specs.declared.start.Start.{Start}
 use Rattle.gor_marks.specs.declared.mark.Mark.{Mark}
 use Rattle.gor_marks.specs.declared.mark.Mark.TheVariants.{Home, Sealed}
 use Rattle.gor_image.specs.Laws.{IsBefore}
-use Rattle.gor_image.specs.Recovered.{AreMarksOrNone}
-use Rattle.gor_flush.specs.Steps.{IsGone, Keeps}
-use Rattle.gor_flush.specs.ReadFiles.{is_replaced}
+use Rattle.gor_image.specs.MarkLists.{AreMarksOrNone}
+use Rattle.gor_image.specs.DiskSteps.{IsGone, Keeps}
+use Rattle.gor_image.specs.ReadFiles.{is_replaced}
 
 -- no marks, or those of some shard
 pub record AreSomeMarks (marks : List Mark) : Type 0 where
@@ -22,10 +22,6 @@ pub record AreSomeMarks (marks : List Mark) : Type 0 where
 -- every file that the last mark replaces is empty
 abbrev pub AreDropped : List Mark → DiskView → Type 0
 AreDropped marks disk = (file : FileId) → is_replaced marks file ≡ true → IsGone file disk
-
--- whatever the images were before, those of the call and after it are too
-abbrev pub KeepsBefore : List Mark → DiskView → DiskView → Type 0
-KeepsBefore marks old new = (shards shard : ℕ) (start : Start) (C : List Change) → Keeps (λ image. IsBefore shards shard image marks start C) old new
 
 -- the logs from one number up to another
 abbrev pub is_log_in : ℕ → ℕ → FileId → Bool

@@ -6,8 +6,8 @@ use Rattle.gor_image.specs.Records.{Batch}
 use Rattle.gor_image.specs.Recovery.{ShardMap}
 use Rattle.gor_image.specs.Holding.{start_of}
 use Rattle.gor_image.specs.Images.{opens_to, marks_of, remaining_logs, read_logs, top_of}
-use Rattle.gor_image.specs.Recovered.{recovered_start}
-use Rattle.gor_image.specs.declared.recovered.Recovered.{Recovered}
+use Rattle.gor_recover.specs.Recovered.{recovered_start}
+use Rattle.gor_recover.specs.declared.recovered.Recovered.{Recovered}
 
 -- The map that the files open to, as a start; their marks; and the batches of the logs that remain, with the greatest
 -- window of the puts of each log.

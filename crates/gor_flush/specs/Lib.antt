@@ -7,9 +7,8 @@ pub mod Lending
 pub mod Parts
 pub mod Takes
 pub mod Writes
-pub mod ReadFiles
-pub mod Steps
 pub mod Dropping
 pub mod Opening
 pub mod Preparing
 pub mod Found
+pub mod NextMarks

@@ -7,16 +7,16 @@ use Rattle.gor_gate.specs.Gates.{gates, IsClosed}
 use Rattle.gor_gate.specs.Places.{IsRead, IsEnsured}
 use Rattle.gor_marks.specs.declared.mark.Mark.{Mark}
 use Rattle.gor_marks.specs.declared.mark.Mark.TheVariants.{Home}
-use Rattle.gor_image.specs.declared.recovered.LogTop.{LogTop}
-use Rattle.gor_image.specs.declared.recovered.OpenFault.{OpenFault}
-use Rattle.gor_image.specs.declared.recovered.OpenFault.TheVariants as refused
+use Rattle.gor_recover.specs.declared.recovered.LogTop.{LogTop}
+use Rattle.gor_recover.specs.declared.recovered.OpenFault.{OpenFault}
+use Rattle.gor_recover.specs.declared.recovered.OpenFault.TheVariants as refused
 use Rattle.std.specs.List.{AllByRecursion}
 use Rattle.gor_flush.specs.Found.{Found}
-use Rattle.gor_image.specs.declared.recovered.Recovered.{Recovered}
+use Rattle.gor_recover.specs.declared.recovered.Recovered.{Recovered}
 use Rattle.gor_image.specs.Fit.{IsFitFor, FitHolds}
 use Rattle.gor_image.specs.Holding.{start_of}
 use Rattle.gor_image.specs.Images.{map_of, marks_of, fresh_map, top_of}
-use Rattle.gor_image.specs.Openings.{OnlyRead}
+use Rattle.gor_recover.specs.Openings.{OnlyRead}
 use Rattle.gor_image.specs.Laws.{IsBefore, IsEmptyList}
 use Rattle.gor_image.specs.Recovery.{ShardMap}
 use Rattle.gor_flush.specs.Devices.{ShowTops}

@@ -2,7 +2,7 @@
 use Rattle.std.specs.Prelude.{◌≡◌, ℕ, List, [], ◌∷◌, IsTrue}
 use Rattle.gor_disk.specs.Disk.{DiskView}
 use Rattle.gor_flush.specs.Devices.{Shown}
-use Rattle.gor_flush.specs.Steps.{GoesOn}
+use Rattle.gor_image.specs.DiskSteps.{GoesOn}
 use Rattle.gor_marks.specs.declared.mark.Mark.{Mark}
 use Rattle.gor_marks.specs.declared.mark.Mark.TheVariants.{Home}
 

@@ -2,8 +2,8 @@
 use Rattle.std.specs.Prelude.{ℕ, Bool, map}
 use Rattle.gor_model.specs.declared.start.Start.{Start}
 use Rattle.gor_flush.specs.FitTest.{is_fit}
-use Rattle.gor_image.specs.Recovered.{keyed_row}
-use Rattle.gor_image.specs.declared.recovered.Recovered.{Recovered}
+use Rattle.gor_recover.specs.Recovered.{keyed_row}
+use Rattle.gor_recover.specs.declared.recovered.Recovered.{Recovered}
 use Rattle.gor_flush.specs.Devices.{Shown}
 
 -- with so many slots, of this home, at this moment of the disk's clock, where the disk had failed so often, of files that were

@@ -4,7 +4,7 @@ use Rattle.gor_gate.specs.Places.{IsEnsured}
 use Rattle.gor_journal.specs.Entries.{greater}
 use Rattle.gor_model.specs.Changes.{History, changes}
 use Rattle.gor_model.specs.declared.start.Start.{Start}
-use Rattle.gor_image.specs.declared.recovered.LogTop.{LogTop}
+use Rattle.gor_recover.specs.declared.recovered.LogTop.{LogTop}
 use Rattle.gor_flush.specs.Devices.{Shown}
 use Rattle.gor_flush.specs.Flushes.{AreBodies}
 use Rattle.gor_flush.specs.Takes.{HasTaken}

@@ -4,17 +4,17 @@ ghost use Rattle.gor_disk.specs.declared.disk.FileId.TheVariants.{Marks, Keys, L
 ghost use Rattle.gor_disk.specs.Disk.{NothingPending, CountsFault};
 ghost use Rattle.gor_gate.specs.Gates.{gates};
 ghost use Rattle.gor_image.specs.Images.{read_logs};
-ghost use Rattle.gor_image.specs.Openings.{CountsOpenFault};
+ghost use Rattle.gor_recover.specs.Openings.{CountsOpenFault};
 ghost use Rattle.gor_marks.specs.Spelling.{InLimits, spelling};
 ghost use Rattle.gor_flush.specs.Opening.{AreFiles, AreEnsured, Begins, HasEmptyFirst, IsBegun, IsNoDamage, IsUnmarked, is_first};
-ghost use Rattle.gor_flush.specs.Steps.{GoesOn, IsGone, Keeps, Leaves};
+ghost use Rattle.gor_image.specs.DiskSteps.{GoesOn, IsGone, Keeps, Leaves};
 
 use crate::dropping::clear;
 use crate::files::{CurrentFiles, ensure_all, find_beside, find_marks};
 use gor_disk::{DeviceFault, Disk, FileId};
 use gor_gate::Frame;
-use gor_image::OpenFault;
 use gor_marks::Mark;
+use gor_recover::OpenFault;
 use std::alloc::Global;
 
 fn clear_first<D: Disk>(disk: &mut D) -> Result<(), DeviceFault>

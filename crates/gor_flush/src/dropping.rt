@@ -3,9 +3,9 @@ ghost use Rattle.std.specs.Prelude.{None, IfSome, ◌≡◌, ◌≤◌, ◌<◌,
 ghost use Rattle.gor_disk.specs.declared.disk.FileId.{FileId as Name};
 ghost use Rattle.gor_disk.specs.Disk.{Touches, CountsFault};
 ghost use Rattle.gor_image.specs.Images.{first_log_of, base_of, or_zero};
-ghost use Rattle.gor_flush.specs.Dropping.{AreSomeMarks, AreDropped, KeepsBefore, is_log_in, is_block_of, drops};
-ghost use Rattle.gor_flush.specs.ReadFiles.{earlier, is_replaced};
-ghost use Rattle.gor_flush.specs.Steps.{Leaves, IsGone};
+ghost use Rattle.gor_image.specs.ReadFiles.{KeepsBefore, earlier, is_replaced};
+ghost use Rattle.gor_flush.specs.Dropping.{AreSomeMarks, AreDropped, is_log_in, is_block_of, drops};
+ghost use Rattle.gor_image.specs.DiskSteps.{Leaves, IsGone};
 
 use gor_disk::{DeviceFault, Disk, FileId};
 use gor_marks::Mark;

@@ -5,12 +5,13 @@ ghost use Rattle.gor_disk.specs.Disk.{IsSettled, NothingPending, Runs, Touches, 
 ghost use Rattle.gor_gate.specs.Gates.{gates, IsClosed};
 ghost use Rattle.gor_gate.specs.Places.{IsRead, IsEnsured};
 ghost use Rattle.gor_gate.specs.Bodies.{FaultCounts};
-ghost use Rattle.gor_image.specs.Openings.{FaultCounts as CountsAs, OnlyRead, CountsOpenFault};
+ghost use Rattle.gor_recover.specs.Openings.{FaultCounts as CountsAs, OnlyRead, CountsOpenFault};
 ghost use Rattle.gor_flush.specs.Opening.{AreFiles, AreNamed, AreRead, AreEnsured, AreWhole, IsSameStore, IsAtRest, IsNoDamage, StaysClosed};
 
 use gor_disk::{Disk, DiskFailed, FileId};
 use gor_gate::{GateFault, Gated, read_all};
-use gor_image::{DamageKind, ImageFault, OpenFault};
+use gor_image::{DamageKind, ImageFault};
+use gor_recover::OpenFault;
 use std::alloc::Global;
 
 /// The marks, and the current key list and log.

@@ -6,6 +6,7 @@
 //! - `dropping`: the files that the last mark replaces are cut.
 //! - `append`: the key records of a flush, and then its batch.
 //! - `writing`: what a device does with what a Take moved to its buffers, and how it is stopped.
+//! - `turning`: the mark of a finish, and room for it.
 //! - `flush_laws`: when a device may write, and what keeps the changes of each Done.
 //! - `part`, `opening`: the values of a shard's objects, and the start of its history.
 #![tactic(auto)]
@@ -21,6 +22,7 @@ mod opening;
 mod part;
 mod preparing;
 mod reopening;
+mod turning;
 mod writing;
 
 pub use append::append_taken;

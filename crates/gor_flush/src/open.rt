@@ -5,21 +5,21 @@ ghost use Rattle.gor_model.specs.Shares.{device_share};
 ghost use Rattle.gor_model.specs.Windows.{slots_of_a_shard};
 ghost use Rattle.gor_flush.specs.Found.{Found};
 ghost use Rattle.gor_image.specs.Images.{current, opens_to};
-ghost use Rattle.gor_image.specs.Openings.{CountsOpenFault, FaultCounts, IsMet};
-ghost use Rattle.gor_image.specs.Recovered.{IsRecovered};
+ghost use Rattle.gor_recover.specs.Openings.{CountsOpenFault, FaultCounts, IsMet};
+ghost use Rattle.gor_recover.specs.Recovered.{IsRecovered};
 ghost use Rattle.gor_marks.specs.Spelling.{IsHome};
 ghost use Rattle.gor_flush.specs.Devices.{StandsFor, shown};
 ghost use Rattle.gor_flush.specs.Dropping.{AreDropped};
 ghost use Rattle.gor_flush.specs.Opening.{AreFiles, AreEnsured, HoldsOn, IsOpened, IsUnwritten};
 ghost use Rattle.gor_flush.specs.Preparing.{BeginsAt, device_marks};
 ghost use Rattle.gor_flush.specs.Starts.{start_with};
-ghost use Rattle.gor_flush.specs.Steps.{GoesOn};
+ghost use Rattle.gor_image.specs.DiskSteps.{GoesOn};
 
 use crate::device::Device;
 use crate::preparing::{Prepared, prepare};
 use gor_disk::Disk;
-use gor_image::{OpenFault, Recovered, recover};
 use gor_journal::Buffers;
+use gor_recover::{OpenFault, Recovered, recover};
 use std::alloc::Global;
 use std::snapshot::Snapshot;
 

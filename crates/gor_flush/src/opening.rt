@@ -1,7 +1,7 @@
 //! What an opening learned, as the start of a shard's history.
 use crate::device::Device;
 use gor_disk::Disk;
-use gor_image::Recovered;
+use gor_recover::Recovered;
 use gor_rule::Begins;
 use std::snapshot::Snapshot;
 

@@ -2,21 +2,21 @@
 ghost use Rattle.std.specs.Prelude.{◌≡◌, ◌≢◌, [], ◌∷◌, IsTrue, IfOk, IfErr};
 ghost use Rattle.gor_disk.specs.Disk.{NothingPending};
 ghost use Rattle.gor_image.specs.Images.{current};
-ghost use Rattle.gor_image.specs.Openings.{CountsOpenFault};
-ghost use Rattle.gor_image.specs.Recovered.{AreMarksOrNone};
+ghost use Rattle.gor_recover.specs.Openings.{CountsOpenFault};
+ghost use Rattle.gor_image.specs.MarkLists.{AreMarksOrNone};
 ghost use Rattle.gor_marks.specs.Spelling.{InLimits, spelling};
 ghost use Rattle.gor_flush.specs.Dropping.{AreDropped};
 ghost use Rattle.gor_flush.specs.Opening.{AreFiles, AreEnsured, HoldsOn, IsFresh, IsNoDamage, IsOpened, IsStore, WasFound};
 ghost use Rattle.gor_flush.specs.Preparing.{device_marks};
-ghost use Rattle.gor_flush.specs.Steps.{GoesOn};
+ghost use Rattle.gor_image.specs.DiskSteps.{GoesOn};
 
 use crate::beginning::begin;
 use crate::files::CurrentFiles;
 use crate::reopening::reopen;
 use gor_disk::Disk;
 use gor_gate::Frame;
-use gor_image::{LogTop, OpenFault, Recovered};
 use gor_marks::{Mark, write_mark};
+use gor_recover::{LogTop, OpenFault, Recovered};
 use std::alloc::{AllocError, Global};
 
 /// The files that are appended to, and copies of the marks and of the logs that remain.

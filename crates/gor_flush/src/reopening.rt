@@ -2,17 +2,17 @@
 ghost use Rattle.std.specs.Prelude.{◌≡◌, ◌≢◌, [], IsTrue, IfOk, IfErr, OnOk};
 ghost use Rattle.gor_disk.specs.Disk.{NothingPending, CountsFault};
 ghost use Rattle.gor_image.specs.Images.{current};
-ghost use Rattle.gor_image.specs.Openings.{OnlyRead, CountsOpenFault};
-ghost use Rattle.gor_flush.specs.Dropping.{AreDropped, AreSomeMarks, KeepsBefore};
+ghost use Rattle.gor_recover.specs.Openings.{OnlyRead, CountsOpenFault};
+ghost use Rattle.gor_image.specs.ReadFiles.{KeepsBefore, ReadsAs};
+ghost use Rattle.gor_flush.specs.Dropping.{AreDropped, AreSomeMarks};
 ghost use Rattle.gor_flush.specs.Opening.{AreFiles, AreRead, AreEnsured, AreWhole, IsNoDamage};
-ghost use Rattle.gor_flush.specs.ReadFiles.{ReadsAs};
-ghost use Rattle.gor_flush.specs.Steps.{GoesOn};
+ghost use Rattle.gor_image.specs.DiskSteps.{GoesOn};
 
 use crate::dropping::{drop_old, last_mark};
 use crate::files::{CurrentFiles, ensure_all, find_beside, find_marks};
 use gor_disk::{DeviceFault, Disk};
-use gor_image::OpenFault;
 use gor_marks::Mark;
+use gor_recover::OpenFault;
 use std::alloc::Global;
 
 /// The number of the current key list and of the current log.

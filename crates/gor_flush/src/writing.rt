@@ -16,8 +16,8 @@ ghost use Rattle.gor_flush.specs.Writes.{CountsAll, MayWrite, raised};
 use crate::append::append_taken;
 use crate::device::Device;
 use gor_disk::{DeviceFault, Disk};
-use gor_image::LogTop;
 use gor_journal::Buffers;
+use gor_recover::LogTop;
 use std::snapshot::Snapshot;
 
 impl<D: Disk> Device<D> {

@@ -1,6 +1,8 @@
 -- A fit image that holds a state can be written on, and what stands is fit.
 use Rattle.std.proofs.Common.{◌≡◌, ℕ, ◌<◌, ◌≤◌, List, [], ◌∷◌, Bool, true, false, ◌&&◌, Option, Some, None, refl, sym, ap, ◌∙◌, subst, arith}
 use Rattle.std.specs.Prelude.{Result, Ok, nat_lt, nat_eq, option_map, ⊤}
+use Rattle.std.specs.List.{AllByRecursion}
+use Rattle.gor_model.specs.Names.{key_of}
 use Rattle.gor_model.specs.Windows.{slots_of_a_shard}
 use Rattle.gor_model.specs.declared.event.Change.{Change}
 use Rattle.gor_model.specs.declared.start.Row.{Row}
@@ -57,6 +59,17 @@ low_record (Create number slot floor name) low = omega arith
 low_record (Delete number slot) low = tt
 low_record (Live uid slot floor name) low = omega arith
 
+abbrev IsKeyed : List ℕ → Row → Type 0
+IsKeyed k r = k ≡ key_of r.name
+
+all_keyed : (xs : List (Placed KeyRecord)) → AllByRecursion (λ (x : Placed KeyRecord). IsRecordOf IsKeyed x.it) xs
+all_keyed [] = tt
+all_keyed (x ∷ xs) = (by x.it, all_keyed xs) where
+  by : (r : KeyRecord) → IsRecordOf IsKeyed r
+  by (Create number slot floor name) = refl
+  by (Delete number slot) = tt
+  by (Live uid slot floor name) = refl
+
 no_and : (b : Bool) → (b && false) ≡ false
 no_and true = refl
 no_and false = refl
@@ -111,6 +124,19 @@ module _ (shards shard : ℕ) (image : Contents) (m : Mark) (marks : List Mark) 
 
     recover : RecoverTo (files_as (m ∷ marks) read.keys read.blocks read.batches) store.names
     recover = subst (λ (ns : Names). RecoverTo (files_as (m ∷ marks) read.keys read.blocks read.batches) ns) same_names mapped.recover
+
+    -- no slot of its names is beyond the slots of a shard, and each stands under the key of its spelling
+    pub store_low : (k : List ℕ) (r : Row) → (recovered store.files store.names).row k ≡ Some r → r.slot < slots_of_a_shard
+    store_low = subst (λ (f : Files). (k : List ℕ) (r : Row) → (recovered f store.names).row k ≡ Some r → r.slot < slots_of_a_shard) read.are low_found
+
+    pub store_keyed : (k : List ℕ) (r : Row) → (recovered store.files store.names).row k ≡ Some r → k ≡ key_of r.name
+    store_keyed k r is = at (store.names.row k) refl is where
+      at : (o : Option Row) → store.names.row k ≡ o → option_map (filled store.files.base store.files.blocks (log_records store.files.batches)) o ≡ Some r → k ≡ key_of r.name
+      at None e f = absurd (let both : None ≡ Some r = f in cc)
+      at (Some x) e f =
+          let both : Some (filled store.files.base store.files.blocks (log_records store.files.batches) x) ≡ Some r = f in
+          let it : filled store.files.base store.files.blocks (log_records store.files.batches) x ≡ r = cc in
+          subst (λ (y : Row). k ≡ key_of y.name) it (read_have IsKeyed store.files store.names store.names_are (all_keyed store.files.keys) k x e)
 
     -- its files stand for their own start
     start_stands : (slots : ℕ) → Stand (files_as (m ∷ marks) read.keys read.blocks read.batches) (start_of slots (recovered (files_as (m ∷ marks) read.keys read.blocks read.batches) store.names)) []

@@ -11,6 +11,7 @@ use Rattle.gor_image.specs.declared.fault.DamageKind.TheVariants.{Cut, Order}
 use Rattle.gor_image.specs.declared.fault.ImageFault.{ImageFault}
 use Rattle.gor_image.specs.Grammars.{Reads, and_then, wrong, log_at}
 use Rattle.gor_image.specs.Images.{in_file, read_bodies, read_walk, read_gated, read_batch, read_logs, last_number, or_zero}
+use Rattle.gor_image.specs.Turns.{LaterLogsAlone}
 use Rattle.gor_image.proofs.Pushed.{in_file_ok}
 
 last_push : (s : List Batch) (b : Batch) → last_of (s ++ b ∷ []) ≡ Some b
@@ -112,14 +113,6 @@ logs_add image (l ∷ ls) s t is = by (read_gated image (read_batch l) (Log l) s
   by (Err f) e is' further = absurd (let both : Err f ≡ Ok t = is' in cc)
   by (Ok u) e is' further = join u (gated_adds image l s u e) (further u is')
 
--- the batches of earlier logs, and those of the later ones, which read the same alone
-pub record Parts (image : Contents) (earlier later : List ℕ) (batches : List Batch) : Type 0 where
-  pub dropped : List Batch
-  pub remaining : List Batch
-  pub is : batches ≡ dropped ++ remaining
-  pub earlier_read : read_logs image earlier [] ≡ Ok dropped
-  pub later_read : read_logs image later [] ≡ Ok remaining
-
 pub parts : (image : Contents) (earlier later : List ℕ) (s batches : List Batch) → read_logs image (earlier ++ later) s ≡ Ok batches
     → (u : List Batch) × (read_logs image earlier s ≡ Ok u) × (read_logs image later u ≡ Ok batches)
 parts image [] later s batches is = (s, refl, is)
@@ -130,7 +123,7 @@ parts image (l ∷ earlier) later s batches is = by (read_gated image (read_batc
   by (Err f) e is' further = absurd (let both : Err f ≡ Ok batches = is' in cc)
   by (Ok u) e is' further = let p = further u is' in (p.0, ap (λ (o : Result (List Batch) ImageFault). and_then o (λ v. read_logs image earlier v)) e ∙ p.1, p.2)
 
-pub later_logs : (image : Contents) (earlier later : List ℕ) (batches : List Batch) → read_logs image (earlier ++ later) [] ≡ Ok batches → Parts image earlier later batches
+pub later_logs : LaterLogsAlone
 later_logs image earlier later batches is =
     let p = parts image earlier later [] batches is in
     let a = logs_add image later p.0 batches p.2 in

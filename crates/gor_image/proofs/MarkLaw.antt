@@ -1,6 +1,6 @@
 -- A row keeps its points when a mark turns from the old files to the new.
 use Rattle.std.proofs.Common.{◌≡◌, ℕ, ◌+◌, ◌*◌, ◌/◌, ◌<◌, ◌≤◌, ◌⊎◌, inl, inr, List, [], ◌∷◌, ◌++◌, Bool, true, false, ◌&&◌, Option, Some, None, refl, sym, ap, ◌∙◌, arith}
-use Rattle.std.specs.Prelude.{filter, filter_map, flat_map, ⊤, if◌then◌else◌, nat_lt, nat_le, nat_eq}
+use Rattle.std.specs.Prelude.{filter, filter_map, flat_map, if◌then◌else◌, nat_lt, nat_le, nat_eq}
 use Rattle.std.specs.List.{AllByRecursion, cons_option}
 use Rattle.std.proofs.lemmas.List.{append_assoc}
 use Rattle.std.proofs.lemmas.List.Elements.{filter_map-append, filter-append}
@@ -14,13 +14,8 @@ use Rattle.gor_log.specs.declared.record.LogRecord.{LogRecord}
 use Rattle.gor_log.specs.declared.record.LogRecord.TheVariants.{Put, Floor, Seal}
 use Rattle.gor_image.specs.Records.{BlockRow, Base}
 use Rattle.gor_image.specs.Recovery.{is_above, block_points, put_point, points_of}
+use Rattle.gor_image.specs.Turns.{is_up_to, is_behind, WindowRises, HasNoneBehind, is_live, IsInFile, IsCopied}
 use Rattle.gor_image.proofs.Core.{Rises}
-
-abbrev pub is_up_to : ℕ → Point → Bool
-is_up_to w p = nat_le (window p.time) w
-
-abbrev pub is_behind : ℕ → Point → Bool
-is_behind w p = nat_lt w (window p.time)
 
 later_window : (a b w : ℕ) → w < a / 7200 → a < b → w < b / 7200
 later_window a b w behind less = let low = div-mul-le_self a 7200 in let at_most : w + 1 ≤ b / 7200 = le-div (w + 1) b 7200 (omega arith) (omega arith) in omega arith
@@ -47,11 +42,6 @@ split_at w (x ∷ xs) rise = by (nat_le (window x.time) w) refl (split_at w xs r
       rw (e, on) (rw (none.0, none.1) refl)
 
 -- ---- the puts of a series, with a later mark
-
--- the mark's window rises
-abbrev pub WindowRises : Option ℕ → ℕ → Type 0
-WindowRises None w = ⊤
-WindowRises (Some v) w = v < w
 
 above_both : (last : Option ℕ) (w t : ℕ) → WindowRises last w → (if is_above last t then nat_lt w t else false) ≡ nat_lt w t
 above_both None w t rises = refl
@@ -80,11 +70,6 @@ puts_behind base w upto uid (Put u t word ∷ log) rises = by (nat_eq uid u) (pu
 puts_behind base w upto uid (Floor v ∷ log) rises = puts_behind base w upto uid log rises
 puts_behind base w upto uid (Seal u v ∷ log) rises = puts_behind base w upto uid log rises
 
--- a log that holds no put behind the window
-abbrev pub HasNoneBehind : ℕ → LogRecord → Type 0
-HasNoneBehind w (Put u t word) = window t ≤ w
-HasNoneBehind w _ = ⊤
-
 pub dropped_puts : (w upto uid : ℕ) (log : List LogRecord) → AllByRecursion (HasNoneBehind w) log → filter_map (put_point (record { window = Some w; upto = upto }) uid) log ≡ []
 dropped_puts w upto uid [] none = refl
 dropped_puts w upto uid (Put u t word ∷ log) none = let off : nat_lt w (window t) ≡ false = (let h = none.0 in grind arith) in by (nat_eq uid u) off (dropped_puts w upto uid log none.1) where
@@ -96,12 +81,6 @@ dropped_puts w upto uid (Floor v ∷ log) none = dropped_puts w upto uid log non
 dropped_puts w upto uid (Seal u v ∷ log) none = dropped_puts w upto uid log none.1
 
 -- ---- block files that are live no longer hold no point that is kept
-
-abbrev pub is_live : ℕ → BlockRow → Bool
-is_live w row = nat_lt w (row.file + 12)
-
-abbrev pub IsInFile : BlockRow → Type 0
-IsInFile row = AllByRecursion (λ p. window p.time ≤ row.file) row.points
 
 in_window : (file t : ℕ) → t / 7200 ≤ file → t < (file + 1) * 7200
 in_window file t within = by (cases_lt t ((file + 1) * 7200)) where
@@ -140,11 +119,7 @@ suffix_rises [] ys rise = rise
 suffix_rises (x ∷ xs) ys rise = suffix_rises xs ys rise.1
 
 module _ (base : Base) (w upto uid : ℕ) (blocks fresh : List BlockRow) (dropped remaining : List LogRecord) where
-  -- what the block file of the window has of the series: the kept points of the log up to the window
-  abbrev pub IsCopied : Type 0
-  IsCopied = kept (window_end w) (flat_map (block_points uid) fresh) ≡ kept (window_end w) (filter (is_up_to w) (filter_map (put_point base uid) (dropped ++ remaining)))
-
-  pub turned_points : WindowRises base.window w → AllByRecursion IsInFile blocks → AllByRecursion (HasNoneBehind w) dropped → IsCopied → Rises (points_of base blocks (dropped ++ remaining) uid)
+  pub turned_points : WindowRises base.window w → AllByRecursion IsInFile blocks → AllByRecursion (HasNoneBehind w) dropped → IsCopied base w uid fresh (dropped ++ remaining) → Rises (points_of base blocks (dropped ++ remaining) uid)
       → kept (window_end w) (points_of (record { window = Some w; upto = upto }) (filter (is_live w) blocks ++ fresh) remaining uid) ≡ kept (window_end w) (points_of base blocks (dropped ++ remaining) uid)
   turned_points rises in_file none copied rise =
       ap (λ (l : List Point). kept (window_end w) (l ++ filter_map (put_point (record { window = Some w; upto = upto }) uid) remaining)) (flat_map-append (block_points uid) (filter (is_live w) blocks) fresh)

@@ -1,27 +1,21 @@
 -- What an image holds of a legal history needs no more slots than the history had.
-use Rattle.std.proofs.Common.{◌≡◌, ◌⊎◌, inl, inr, ℕ, ◌+◌, ◌<◌, ◌≤◌, ◌^◌, List, [], ◌∷◌, ◌++◌, Option, Some, None, Bool, true, false, refl, sym, ap, subst, ◌∙◌, arith, option_map, max}
-use Rattle.std.specs.Prelude.{Result, Ok, Err, map, filter_map, option_and_then, nat_lt}
-use Rattle.std.specs.List.{AllByRecursion, range_with_len, cons_option}
+use Rattle.std.proofs.Common.{◌≡◌, ◌⊎◌, inl, inr, ℕ, ◌+◌, ◌≤◌, ◌^◌, List, [], ◌∷◌, ◌++◌, Option, Some, None, Bool, true, false, refl, sym, ap, subst, ◌∙◌, arith, option_map}
+use Rattle.std.specs.Prelude.{Ok, Err, map, filter_map, option_and_then, nat_lt}
+use Rattle.std.specs.List.{AllByRecursion, range_with_len}
 use Rattle.gor_model.specs.declared.event.Change.{Change}
 use Rattle.gor_model.specs.declared.start.Row.{Row}
 use Rattle.gor_model.specs.declared.start.Start.{Start}
-use Rattle.gor_model.specs.Changes.{History, changes}
 use Rattle.gor_model.specs.PlainMap.{greatest, row_after, with_kept, kept_row_after}
-use Rattle.gor_model.specs.States.{IsFirstOf}
-use Rattle.gor_model.specs.Starts.{IsStart}
 use Rattle.gor_model.specs.Windows.{slots_of_a_shard}
-use Rattle.gor_model.specs.Answers.{Legal}
 use Rattle.gor_model.proofs.SlotLaws.{ChangesFit, slot_at}
 use Rattle.gor_model.proofs.SlotsBelow.{AreBelow, slots_below, start_below}
 use Rattle.gor_model.proofs.StartLaws.{start_fits}
 use Rattle.gor_model.proofs.LegalLaws.{legal_fits}
-use Rattle.gor_disk.specs.Disk.{Contents}
-use Rattle.gor_image.specs.declared.fault.ImageFault.{ImageFault}
 use Rattle.gor_image.specs.declared.fault.ImageFault.TheVariants as fault
 use Rattle.gor_image.specs.Recovery.{ShardMap}
 use Rattle.gor_image.specs.Grammars.{and_then}
 use Rattle.gor_image.specs.Holding.{row_at, rows_of}
-use Rattle.gor_image.specs.Images.{map_of, opens_to, with_limits, slots_needed, Holds}
+use Rattle.gor_image.specs.Images.{opens_to, with_limits, slots_needed}
 use Rattle.gor_image.specs.Laws.{OpensAgain}
 
 earlier_fit : (start : Start) (later C : List Change) → ChangesFit start (later ++ C) → ChangesFit start C

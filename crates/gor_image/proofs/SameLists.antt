@@ -13,11 +13,12 @@ use Rattle.gor_image.specs.Grammars.{and_then}
 use Rattle.gor_image.specs.Images.{read_gated, KeysRead, read_keys, read_batch, read_logs, read_blocks, read_mark, read_files, marks_of, map_of, map_of_marks, map_of_files, current, base_of, live_windows, remaining_logs, same_home}
 use Rattle.gor_image.specs.Appends.{keys_from, files_as}
 use Rattle.gor_image.specs.Laws.{HaveSameLists, ListsDecide, IsBefore, AreClosed, SameListsHold}
+use Rattle.gor_image.specs.Turns.{MarksDiffer}
 use Rattle.gor_image.specs.Fit.{HasBody, IsFitStore, IsFitBy}
 use Rattle.gor_image.proofs.Pushed.{gated_same}
 use Rattle.gor_image.proofs.AnyMarks.{blocks_same}
 
-module _ (image after : Contents) (same : HaveSameLists image after) where
+module _ (image after : Contents) (same : MarksDiffer image after) where
   logs_same : (ls : List ℕ) (s : List Batch) → read_logs after ls s ≡ read_logs image ls s
   logs_same [] s = refl
   logs_same (l ∷ ls) s =
@@ -27,7 +28,7 @@ module _ (image after : Contents) (same : HaveSameLists image after) where
         on (Ok u) further = further u
         on (Err f) further = refl
 
-  files_same : (marks : List Mark) → read_files after marks ≡ read_files image marks
+  pub files_same : (marks : List Mark) → read_files after marks ≡ read_files image marks
   files_same marks =
       ap (λ (r : Result KeysRead ImageFault). and_then r (λ keys. and_then (read_blocks after (live_windows marks)) (λ blocks. and_then (read_logs after (remaining_logs marks) []) (λ batches. Ok (files_as marks keys blocks batches)))))
       (gated_same image after (read_keys (nat_lt 0 (current marks))) (Keys (current marks)) (keys_from (base_of marks).upto) (same.keys (current marks)))
@@ -41,12 +42,16 @@ module _ (image after : Contents) (same : HaveSameLists image after) where
   of_marks_same shards shard (m ∷ marks) =
       ap (λ (r : Result Files ImageFault). and_then (same_home shards shard (m ∷ marks)) (λ t. and_then r (λ files. map_of_files (current (m ∷ marks)) files))) (files_same (m ∷ marks))
 
+beside_marks : (image after : Contents) → HaveSameLists image after → MarksDiffer image after
+beside_marks image after same = record { keys = same.keys; logs = same.logs; blocks = same.blocks }
+
+module _ (image after : Contents) (same : HaveSameLists image after) where
   maps_same : (shards shard : ℕ) → map_of after shards shard ≡ map_of image shards shard
   maps_same shards shard =
       ap (λ (r : Result (List Mark) ImageFault). and_then r (map_of_marks after shards shard)) (gated_same image after read_mark Marks [] same.marks)
       ∙ on (marks_of image) where
         on : (r : Result (List Mark) ImageFault) → and_then r (map_of_marks after shards shard) ≡ and_then r (map_of_marks image shards shard)
-        on (Ok marks) = of_marks_same shards shard marks
+        on (Ok marks) = of_marks_same image after (beside_marks image after same) shards shard marks
         on (Err f) = refl
 
 -- ---- and what is fit stays fit where it is closed
@@ -75,7 +80,7 @@ module _ (shards shard : ℕ) (image after : Contents) (m : Mark) (marks : List 
         store = record {
           home = store.home;
           files = store.files;
-          files_are = files_same image after same (m ∷ marks) ∙ store.files_are;
+          files_are = files_same image after (beside_marks image after same) (m ∷ marks) ∙ store.files_are;
           names = store.names;
           names_are = store.names_are;
           map_is = store.map_is;

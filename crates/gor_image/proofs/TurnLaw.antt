@@ -12,17 +12,16 @@ use Rattle.gor_model.specs.declared.start.Row.{Row}
 use Rattle.gor_model.specs.Starts.{row_in, AreApart}
 use Rattle.gor_model.specs.PlainMap.{greatest}
 use Rattle.gor_model.proofs.SlotLaws.{bytes_tell}
-use Rattle.gor_keys.specs.declared.record.KeyRecord.{KeyRecord}
-use Rattle.gor_keys.specs.declared.record.KeyRecord.TheVariants.{Live}
 use Rattle.gor_log.specs.declared.record.LogRecord.{LogRecord}
 use Rattle.gor_image.specs.Records.{BlockRow, Base}
 use Rattle.gor_image.specs.Recovery.{Names, WrongName, with_name, named, read_name, seal_end, points_of, filled}
+use Rattle.gor_image.specs.Turns.{WindowRises, IsInFile, HasNoneBehind, IsCopied, is_live, bare, live_record}
 use Rattle.gor_image.proofs.Core.{Rises}
 use Rattle.gor_image.proofs.Filled.{row_same}
 use Rattle.gor_image.proofs.Reading.{read_plain, and_next}
 use Rattle.gor_image.proofs.AppendLaw.{below_greatest, greatest_bound}
 use Rattle.gor_image.proofs.Stale.{right_all}
-use Rattle.gor_image.proofs.MarkLaw.{WindowRises, IsInFile, HasNoneBehind, IsCopied, turned_points, is_live}
+use Rattle.gor_image.proofs.MarkLaw.{turned_points}
 
 -- ---- a row
 
@@ -31,7 +30,7 @@ module _ (base : Base) (w upto : ℕ) (blocks fresh : List BlockRow) (dropped re
   Old = filled base blocks (dropped ++ remaining) x
 
   pub turned_row : WindowRises base.window w → AllByRecursion IsInFile blocks → AllByRecursion (HasNoneBehind w) dropped
-      → IsCopied base w upto x.uid blocks fresh dropped remaining → Rises (points_of base blocks (dropped ++ remaining) x.uid)
+      → IsCopied base w x.uid fresh (dropped ++ remaining) → Rises (points_of base blocks (dropped ++ remaining) x.uid)
       → (filled base blocks (dropped ++ remaining) x).floor ≡ window_end w
       → filled (record { window = Some w; upto = upto }) (filter (is_live w) blocks ++ fresh) remaining (record (filled base blocks (dropped ++ remaining) x) { points = [] }) ≡ filled base blocks (dropped ++ remaining) x
   turned_row rises in_file none copied rise at_end = row_same refl refl refl same_floor
@@ -55,12 +54,6 @@ module _ (base : Base) (w upto : ℕ) (blocks fresh : List BlockRow) (dropped re
             let low = least (greatest x.floor (filter_map (seal_end x.uid) (dropped ++ remaining))) (filter_map (seal_end x.uid) remaining) in omega arith
 
 -- ---- the names
-
-abbrev pub bare : Row → Row
-bare row = record row { points = [] }
-
-abbrev pub live_record : List ℕ × Row → KeyRecord
-live_record r = Live r.1.uid r.1.slot r.1.floor r.1.name
 
 -- keys and slots of these rows are free
 abbrev pub AreFree : Names → List (List ℕ × Row) → Type 0

@@ -6,50 +6,29 @@ use Rattle.std.specs.Option.{option_or}
 use Rattle.std.proofs.lemmas.List.Elements.{filter_map-append}
 use Rattle.std.proofs.lemmas.Grind.{flat_map-append}
 use Rattle.std.proofs.lemmas.List.{map-append}
-use Rattle.gor_model.specs.Windows.{slots_of_a_shard}
+use Rattle.gor_model.specs.Windows.{slots_of_a_shard, window_end}
 use Rattle.gor_model.specs.declared.event.Change.{Change}
-use Rattle.gor_model.specs.Windows.{window_end}
 use Rattle.gor_model.specs.Names.{key_of}
 use Rattle.gor_model.specs.declared.start.Row.{Row}
 use Rattle.gor_model.specs.declared.start.Start.{Start}
 use Rattle.gor_model.specs.Starts.{row_in}
-use Rattle.gor_model.specs.PlainMap.{greatest}
+use Rattle.gor_model.specs.PlainMap.{greatest, next_change}
 use Rattle.gor_keys.specs.declared.record.KeyRecord.{KeyRecord}
+use Rattle.gor_keys.specs.declared.record.KeyRecord.TheVariants.{Create, Delete, Live}
 use Rattle.gor_log.specs.declared.record.LogRecord.{LogRecord}
+use Rattle.gor_log.specs.declared.record.LogRecord.TheVariants.{Put, Floor, Seal}
 use Rattle.gor_image.specs.Records.{Placed, Batch, BlockRow, Base, Files}
-use Rattle.gor_image.specs.Recovery.{Names, ShardMap, recovered, read_name, read_each, no_names, counts, counted_keys, number_in, log_records, points_of, filled, floor_of, floor_end, base_end, next_of}
+use Rattle.gor_image.specs.Recovery.{ShardMap, recovered, read_name, read_each, no_names, counts, counted_keys, number_in, log_records, points_of, filled, floor_of, floor_end, base_end, next_of}
 use Rattle.gor_image.specs.Holding.{Stand, RiseAbove, BatchesRise, IsUidBelow, IsKeyUidBelow, rows_of}
+use Rattle.gor_image.specs.Turns.{IsCopied, is_live, bare, live_record, Turned}
 use Rattle.gor_image.proofs.Core.{Rises}
 use Rattle.gor_image.proofs.Lists.{all_weaker, all_filter}
 use Rattle.gor_image.proofs.Append.{all_both}
 use Rattle.gor_image.proofs.Reading.{each_plain, read_plain}
 use Rattle.gor_image.proofs.AppendLaw.{below_greatest, greatest_bound, least_greatest, numbers_map, filter_all, all_map, map_all}
 use Rattle.gor_image.proofs.Stale.{right_all}
-use Rattle.gor_image.proofs.MarkLaw.{WindowRises, IsInFile, HasNoneBehind, IsCopied, is_live}
 use Rattle.gor_image.proofs.Opening.{Fits, fits, rows_apart, rows_found, rows_are, read}
-use Rattle.gor_image.proofs.TurnLaw.{turned_row, bare, live_record, AreFree, LiveRead, live_read}
-
--- the new files, against the old ones under the same names: a mark with this window, and `upto` for the changes before it
-pub record Turned (old new : Files) (names : Names) (w upto : ℕ) : Type 0 where
-  pub fresh : List BlockRow
-  pub dropped : List Batch
-  pub base : new.base ≡ record { window = Some w; upto = upto }
-  pub later : WindowRises old.base.window w
-  pub key_list : map (λ r. r.it) new.keys ≡ map live_record (rows_of (recovered old names))
-  pub blocks : new.blocks ≡ filter (is_live w) old.blocks ++ fresh
-  pub logs : old.batches ≡ dropped ++ new.batches
-  pub all_taken : next_of old ≡ upto + 1
-  -- what the finish has made sure of
-  pub none_behind : AllByRecursion (HasNoneBehind w) (log_records dropped)
-  pub shard_at_end : (recovered old names).floor ≡ window_end w
-  pub rows_at_end : (k : List ℕ) (r : Row) → (recovered old names).row k ≡ Some r → r.floor ≡ window_end w
-  pub copied : (k : List ℕ) (r : Row) → names.row k ≡ Some r → IsCopied old.base w upto r.uid old.blocks fresh (log_records dropped) (log_records new.batches)
-  pub rising : (k : List ℕ) (r : Row) → names.row k ≡ Some r → Rises (points_of new.base new.blocks (log_records new.batches) r.uid)
-  pub fresh_uids : AllByRecursion (λ b. b.uid < next_of old) fresh
-  -- what files say by their grammars
-  pub in_file : AllByRecursion IsInFile old.blocks
-  pub low_slots : (k : List ℕ) (r : Row) → (recovered old names).row k ≡ Some r → r.slot < slots_of_a_shard
-  pub keyed : (k : List ℕ) (r : Row) → (recovered old names).row k ≡ Some r → k ≡ key_of r.name
+use Rattle.gor_image.proofs.TurnLaw.{turned_row, AreFree, LiveRead, live_read}
 
 suffix_batches : (n : ℕ) (xs ys : List Batch) → BatchesRise n (xs ++ ys) → BatchesRise 0 ys
 suffix_batches n [] [] rise = tt
@@ -72,7 +51,8 @@ none_free : (rows : List (List ℕ × Row)) → AreFree no_names rows
 none_free [] = tt
 none_free (r ∷ rows) = ((refl, refl), none_free rows)
 
-module _ (old new : Files) (start : Start) (C : List Change) (stand : Stand old start C) (w upto : ℕ) (turned : Turned old new stand.names w upto) where
+module _ (old new : Files) (start : Start) (C : List Change) (stand : Stand old start C) (w upto : ℕ) (turned : Turned old new stand.names w upto)
+    (low_slots : (k : List ℕ) (r : Row) → (recovered old stand.names).row k ≡ Some r → r.slot < slots_of_a_shard) (keyed : (k : List ℕ) (r : Row) → (recovered old stand.names).row k ≡ Some r → k ≡ key_of r.name) where
   m : ShardMap
   m = recovered old stand.names
 
@@ -80,23 +60,23 @@ module _ (old new : Files) (start : Start) (C : List Change) (stand : Stand old 
   log_is = ap log_records turned.logs ∙ flat_map-append (λ (b : Batch). map (λ r. r.it) b.records) turned.dropped new.batches
 
   fit_map : Fits (recovered old stand.names)
-  fit_map = fits old stand.names 0 stand.recover stand.fit turned.low_slots
+  fit_map = fits old stand.names 0 stand.recover stand.fit low_slots
 
   names_read : LiveRead no_names (rows_of (recovered old stand.names))
   names_read = live_read (rows_of (recovered old stand.names)) no_names (rows_apart (recovered old stand.names) fit_map)
-      (all_weaker (λ (r : List ℕ × Row). (recovered old stand.names).row r.0 ≡ Some r.1) (λ (r : List ℕ × Row). r.0 ≡ key_of r.1.name) (rows_of (recovered old stand.names)) (λ r is. turned.keyed r.0 r.1 is) (rows_are (recovered old stand.names)))
+      (all_weaker (λ (r : List ℕ × Row). (recovered old stand.names).row r.0 ≡ Some r.1) (λ (r : List ℕ × Row). r.0 ≡ key_of r.1.name) (rows_of (recovered old stand.names)) (λ r is. keyed r.0 r.1 is) (rows_are (recovered old stand.names)))
       (none_free (rows_of (recovered old stand.names)))
 
   names_are : (q : List ℕ) → names_read.after.row q ≡ option_map bare ((recovered old stand.names).row q)
   names_are q = names_read.rows_are q ∙ option_or-none (option_map bare (row_in (rows_of (recovered old stand.names)) q))
-      ∙ ap (option_map bare) (rows_found (recovered old stand.names) fit_map turned.low_slots q)
+      ∙ ap (option_map bare) (rows_found (recovered old stand.names) fit_map low_slots q)
 
   one_row : (k : List ℕ) (x : Row) → stand.names.row k ≡ Some x → filled new.base new.blocks (log_records new.batches) (bare (filled old.base old.blocks (log_records old.batches) x)) ≡ filled old.base old.blocks (log_records old.batches) x
   one_row k x is =
       subst (λ (b : Base). filled b new.blocks (log_records new.batches) (bare (filled old.base old.blocks (log_records old.batches) x)) ≡ filled old.base old.blocks (log_records old.batches) x) (sym turned.base)
       (subst (λ (bs : List BlockRow). filled (record { window = Some w; upto = upto }) bs (log_records new.batches) (bare (filled old.base old.blocks (log_records old.batches) x)) ≡ filled old.base old.blocks (log_records old.batches) x) (sym turned.blocks)
       (subst (λ (l : List LogRecord). filled (record { window = Some w; upto = upto }) (filter (is_live w) old.blocks ++ turned.fresh) (log_records new.batches) (bare (filled old.base old.blocks l x)) ≡ filled old.base old.blocks l x) (sym log_is)
-      (turned_row old.base w upto old.blocks turned.fresh (log_records turned.dropped) (log_records new.batches) x turned.later turned.in_file turned.none_behind (turned.copied k x is)
+      (turned_row old.base w upto old.blocks turned.fresh (log_records turned.dropped) (log_records new.batches) x turned.later turned.in_file turned.none_behind (subst (λ (l : List LogRecord). IsCopied old.base w x.uid turned.fresh l) log_is (turned.copied k x is))
       (subst (λ (l : List LogRecord). Rises (points_of old.base old.blocks l x.uid)) log_is (stand.recover.rising k x is))
       (subst (λ (l : List LogRecord). (filled old.base old.blocks l x).floor ≡ window_end w) log_is
       (turned.rows_at_end k (filled old.base old.blocks (log_records old.batches) x) (ap (option_map (filled old.base old.blocks (log_records old.batches))) is))))))
@@ -125,9 +105,9 @@ module _ (old new : Files) (start : Start) (C : List Change) (stand : Stand old 
   new_numbers : filter_map (λ (r : Placed KeyRecord). number_in r.it) new.keys ≡ []
   new_numbers = numbers_map new.keys ∙ ap (filter_map number_in) turned.key_list ∙ no_numbers (rows_of (recovered old stand.names))
 
-  next_same : next_of new ≡ next_of old
-  next_same = ap (λ l. greatest (greatest new.base.upto (map (λ (b : Batch). b.last) new.batches)) l + 1) new_numbers
-      ∙ ap (λ (b : Base). greatest b.upto (map (λ (b : Batch). b.last) new.batches) + 1) turned.base ∙ omega (arith, high, low, turned.all_taken) where
+  next_new : next_of new ≡ upto + 1
+  next_new = ap (λ l. greatest (greatest new.base.upto (map (λ (b : Batch). b.last) new.batches)) l + 1) new_numbers
+      ∙ ap (λ (b : Base). greatest b.upto (map (λ (b : Batch). b.last) new.batches) + 1) turned.base ∙ omega (arith, high, low) where
         lasts : AllByRecursion (λ l. l ≤ upto) (map (λ (b : Batch). b.last) new.batches)
         lasts = all_weaker (λ l. l ≤ greatest old.base.upto (map (λ (b : Batch). b.last) old.batches)) (λ l. l ≤ upto) (map (λ (b : Batch). b.last) new.batches)
             (λ l h. let more = least_greatest (greatest old.base.upto (map (λ (b : Batch). b.last) old.batches)) (filter_map (λ (r : Placed KeyRecord). number_in r.it) old.keys) in let e = turned.all_taken in omega arith)
@@ -141,6 +121,19 @@ module _ (old new : Files) (start : Start) (C : List Change) (stand : Stand old 
         low : upto ≤ greatest upto (map (λ (b : Batch). b.last) new.batches)
         low = least_greatest upto (map (λ (b : Batch). b.last) new.batches)
 
+  next_low : next_of old ≤ next_of new
+  next_low = let e = next_new in let t = turned.all_taken in omega arith
+
+  key_later : (x : KeyRecord) → IsKeyUidBelow (next_of old) x → IsKeyUidBelow (next_of new) x
+  key_later (Create number slot floor name) below = let more = next_low in omega arith
+  key_later (Delete number slot) below = tt
+  key_later (Live uid slot floor name) below = let more = next_low in omega arith
+
+  log_later : (x : LogRecord) → IsUidBelow (next_of old) x → IsUidBelow (next_of new) x
+  log_later (Put uid time word) below = let more = next_low in omega arith
+  log_later (Floor v) below = tt
+  log_later (Seal uid v) below = let more = next_low in omega arith
+
   counted_all : counted_keys new ≡ new.keys
   counted_all = filter_all (λ (r : Placed KeyRecord). counts new.base new.batches r.it) new.keys
       (all_map (λ r. counts new.base new.batches r ≡ true) (λ (r : Placed KeyRecord). r.it) new.keys
@@ -151,15 +144,15 @@ module _ (old new : Files) (start : Start) (C : List Change) (stand : Stand old 
     by : (o : Option Row) → stand.names.row k ≡ o → option_map (filled old.base old.blocks (log_records old.batches)) o ≡ Some r → r.uid < next_of old
     by None e is' = absurd (let both : None ≡ Some r = is' in cc)
     by (Some x) e is' = let it : filled old.base old.blocks (log_records old.batches) x ≡ r = cc in
-        subst (λ (y : Row). y.uid < next_of old) it ((read old stand.names 0 stand.recover stand.fit turned.low_slots).below k x e)
+        subst (λ (y : Row). y.uid < next_of old) it ((read old stand.names 0 stand.recover stand.fit low_slots).below k x e)
 
   live_uids : AllByRecursion (IsKeyUidBelow (next_of old)) (map live_record (rows_of (recovered old stand.names)))
   live_uids = map_all (IsKeyUidBelow (next_of old)) live_record (rows_of (recovered old stand.names))
       (all_weaker (λ (r : List ℕ × Row). (recovered old stand.names).row r.0 ≡ Some r.1) (λ (r : List ℕ × Row). r.1.uid < next_of old) (rows_of (recovered old stand.names)) (λ r is. row_uid r.0 r.1 is) (rows_are (recovered old stand.names)))
 
-  -- the new files hold the same state, are fit, and have the same next number
-  pub mark_law : Stand new start C
-  mark_law = record {
+  -- the new files hold the same state and are fit, and their next number is the one behind `upto`
+  pub mark_law : upto + 1 ≤ next_change start C → Stand new start C
+  mark_law taken = record {
     names = names_read.after;
     recover = record {
       numbers = subst (RiseAbove new.base.upto) (sym new_numbers) tt;
@@ -174,13 +167,13 @@ module _ (old new : Files) (start : Start) (C : List Change) (stand : Stand old 
           let low : base_end new.base.window ≡ window_end w = ap (λ (b : Base). base_end b.window) turned.base in (omega arith, omega arith);
       uids_differ = λ k l r o is_r is_o same. stand.fit.uids_differ k l r o (sym (rows_same k) ∙ is_r) (sym (rows_same l) ∙ is_o) same;
       key_uids = all_map (IsKeyUidBelow (next_of new)) (λ (r : Placed KeyRecord). r.it) new.keys
-          (subst (λ l. AllByRecursion (IsKeyUidBelow (next_of new)) l) (sym turned.key_list) (subst (λ n. AllByRecursion (IsKeyUidBelow n) (map live_record (rows_of (recovered old stand.names)))) (sym next_same) live_uids));
-      log_uids = subst (λ n. AllByRecursion (IsUidBelow n) (log_records new.batches)) (sym next_same)
+          (subst (λ l. AllByRecursion (IsKeyUidBelow (next_of new)) l) (sym turned.key_list) (all_weaker (IsKeyUidBelow (next_of old)) (IsKeyUidBelow (next_of new)) (map live_record (rows_of (recovered old stand.names))) key_later live_uids));
+      log_uids = all_weaker (IsUidBelow (next_of old)) (IsUidBelow (next_of new)) (log_records new.batches) log_later
           (right_all (IsUidBelow (next_of old)) (log_records turned.dropped) (log_records new.batches) (subst (λ l. AllByRecursion (IsUidBelow (next_of old)) l) log_is stand.fit.log_uids));
-      block_uids = subst (λ n. AllByRecursion (λ (b : BlockRow). b.uid < n) new.blocks) (sym next_same) (subst (λ l. AllByRecursion (λ (b : BlockRow). b.uid < next_of old) l) (sym turned.blocks)
+      block_uids = all_weaker (λ (b : BlockRow). b.uid < next_of old) (λ (b : BlockRow). b.uid < next_of new) new.blocks (λ b below. let more = next_low in omega arith) (subst (λ l. AllByRecursion (λ (b : BlockRow). b.uid < next_of old) l) (sym turned.blocks)
           (all_both (λ (b : BlockRow). b.uid < next_of old) (filter (is_live w) old.blocks) turned.fresh (all_filter (λ (b : BlockRow). b.uid < next_of old) (is_live w) old.blocks stand.fit.block_uids) turned.fresh_uids));
     };
-    next = let e = next_same in let n = stand.next in omega arith;
+    next = let e = next_new in omega (arith, taken);
   } where
     new_rising : (k : List ℕ) (r : Row) → option_map bare ((recovered old stand.names).row k) ≡ Some r → Rises (points_of new.base new.blocks (log_records new.batches) r.uid)
     new_rising k r is = by (stand.names.row k) refl is where

@@ -1,4 +1,6 @@
 //! What appends and openings may rely on.
+ghost use Rattle.gor_image.specs.ReadFiles.{UnreadChangesNothing};
+ghost use Rattle.gor_image.specs.Turns.{MarkTurns, LaterLogsAlone};
 ghost use Rattle.gor_image.specs.Laws.{ListsDecide, SameListsHold, KeysChangeNothing, BothExtend, WaitingSpells, BlockIsFound, BlockIsExact, BeginsItself, NoMarkIsFresh, EmptyIsFresh, HomeIsFresh, OpensAgain};
 
 /// The laws that appends rest on, as clauses. Those on appends speak of an image that is fit and holds the state after some
@@ -8,6 +10,14 @@ pub fn laws()
     ensures lists { ListsDecide }
     // So does it stay fit, where these files are closed.
     ensures same { SameListsHold }
+    // And so does it where only files differ that its marks do not have read: a block file, a key list or a log that a finish
+    // has not come to name yet, or that the last mark replaces.
+    ensures unread { UnreadChangesNothing }
+    // A mark behind the marks turns an image that has the new files over to them: it holds the same state by these, is fit, and
+    // can be written on.
+    ensures turns { MarkTurns }
+    // The later ones of the logs that it had are read alone as they were read behind the earlier ones.
+    ensures later { LaterLogsAlone }
     // A fit image begins from what it recovers to: it holds the state of that start, with no change yet.
     ensures begins { BeginsItself }
     // Where there is no mark, it is that of a fresh shard. So is the empty disk.

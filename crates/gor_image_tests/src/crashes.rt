@@ -9,8 +9,8 @@ use crate::devices::{open, write};
 use crate::steps::has_point;
 use gor_disk::{Disk, DiskKind, MemoryDisk};
 use gor_flush::{Device, NoDevice};
-use gor_image::{OpenFault, Recovered, RecoveredRow, recover};
 use gor_journal::Journal;
+use gor_recover::{OpenFault, Recovered, RecoveredRow, recover};
 use std::alloc::Global;
 
 // ---- what the files recover to

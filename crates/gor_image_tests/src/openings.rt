@@ -10,8 +10,9 @@ use crate::reads::looks;
 use crate::sealed::lay_store;
 use gor_disk::{Disk, DiskCall, DiskFailed, DiskKind, FileId, MemoryDisk};
 use gor_flush::{Device, NoDevice, drop_old};
-use gor_image::{ImageFault, OpenFault};
+use gor_image::ImageFault;
 use gor_marks::Mark;
+use gor_recover::OpenFault;
 use std::alloc::Global;
 
 const SHUT: [u8; 1] = [0];

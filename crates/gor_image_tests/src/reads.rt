@@ -4,7 +4,7 @@ use crate::damage::{Store, lay};
 use crate::laid::Bytes;
 use crate::steps::{ONLY, fault_of};
 use gor_disk::{DiskCall, DiskKind, FileId, MemoryDisk};
-use gor_image::OpenFault;
+use gor_recover::OpenFault;
 use std::alloc::Global;
 
 // The calls behind those that laid the files.

@@ -3,8 +3,9 @@
 use crate::laid::{Bytes, bytes_of, one_block, write};
 use crate::sealed::{lay_store, lay_turned};
 use gor_disk::{FileId, MemoryDisk};
-use gor_image::{DamageKind, ImageFault, OpenFault, Recovered, RecoveredRow, recover};
+use gor_image::{DamageKind, ImageFault};
 use gor_marks::Mark;
+use gor_recover::{OpenFault, Recovered, RecoveredRow, recover};
 use std::alloc::Global;
 use std::process::Abort;
 

@@ -6,8 +6,8 @@ use Rattle.std.specs.Io.KnownBytes.{Keeps}
 use Rattle.gor_disk.specs.Disk.{DiskView}
 use Rattle.gor_disk.specs.Disk as disk
 use Rattle.gor_image.specs.declared.fault.ImageFault.{ImageFault}
-use Rattle.gor_image.specs.declared.recovered.OpenFault.{OpenFault}
-use Rattle.gor_image.specs.declared.recovered.OpenFault.TheVariants as refused
+use Rattle.gor_recover.specs.declared.recovered.OpenFault.{OpenFault}
+use Rattle.gor_recover.specs.declared.recovered.OpenFault.TheVariants as refused
 use Rattle.gor_image.specs.Images.{opens_to}
 use Rattle.gor_model.specs.declared.start.Start.{Start}
 use Rattle.gor_outside.specs.Causes.{Rose}

@@ -9,7 +9,7 @@ use Rattle.gor_outside.specs.declared.sink.Sink as sink_ghosts
 use Rattle.gor_outside.specs.declared.source.Source as source_ghosts
 use Rattle.gor_image.specs.Images.{opens_to}
 use Rattle.gor_image.specs.declared.fault.ImageFault.{ImageFault}
-use Rattle.gor_image.specs.declared.recovered.OpenFault.TheVariants as refused
+use Rattle.gor_recover.specs.declared.recovered.OpenFault.TheVariants as refused
 use Rattle.gor_text.specs.Workloads.{IsFirstBad}
 use Rattle.gor_run.specs.Dumps.{CallsFirst, EndsAs, FaultShows}
 use Rattle.gor_run.specs.Inputs.{most_input}

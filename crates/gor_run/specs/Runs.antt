@@ -14,7 +14,7 @@ use Rattle.gor_model.specs.declared.event.Call.{Call}
 use Rattle.gor_model.specs.declared.event.Call.TheVariants as call
 use Rattle.gor_model.specs.declared.event.Event.{Event}
 use Rattle.gor_model.specs.Changes.{History, changed}
-use Rattle.gor_image.specs.declared.recovered.OpenFault.{OpenFault}
+use Rattle.gor_recover.specs.declared.recovered.OpenFault.{OpenFault}
 use Rattle.gor_text.specs.declared.workload.Line.{Line}
 use Rattle.gor_text.specs.Workloads.{IsWorkloadText, IsFirstBad, is_good_line}
 use Rattle.gor_text.specs.Grammar.{lines_of}

@@ -10,8 +10,8 @@ use Rattle.gor_finish.specs.Made.{Numbered}
 use Rattle.gor_hall.specs.declared.pass.Pass.{Pass}
 use Rattle.gor_hall.specs.Halls.{start_of}
 use Rattle.gor_hall.specs.Passes.{made}
-use Rattle.gor_image.specs.declared.recovered.OpenFault.{OpenFault}
-use Rattle.gor_image.specs.declared.recovered.OpenFault.TheVariants as refused
+use Rattle.gor_recover.specs.declared.recovered.OpenFault.{OpenFault}
+use Rattle.gor_recover.specs.declared.recovered.OpenFault.TheVariants as refused
 use Rattle.gor_text.specs.declared.answer.LaneAnswer.{LaneAnswer}
 use Rattle.gor_text.specs.declared.workload.Line.{Line}
 use Rattle.gor_text.specs.Spelling.{answer_line}

@@ -3,12 +3,12 @@ ghost use Rattle.std.specs.Prelude.{◌≡◌, ◌++◌, flat_map, length, map, 
 ghost use Rattle.std.specs.List.Sorted.{IsPermutation, IsSortedByKey};
 ghost use Rattle.std.specs.Ordering.{nat_cmp};
 ghost use Rattle.std.specs.Cmp.Lexicographic.{slice_cmp};
-ghost use Rattle.gor_image.specs.Recovered.{keyed_row, recovered_start};
+ghost use Rattle.gor_recover.specs.Recovered.{keyed_row, recovered_start};
 ghost use Rattle.gor_model.specs.Names.{key_of};
 ghost use Rattle.gor_run.specs.Dumps.{IsDumpOf, floor_part, row_line};
 ghost use Rattle.gor_run.specs.Words.{most_slots};
 
-use gor_image::{Recovered, RecoveredRow};
+use gor_recover::{Recovered, RecoveredRow};
 use gor_text::{write_floor, write_series};
 use std::alloc::{AllocError, Global};
 

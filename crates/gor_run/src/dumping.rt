@@ -2,7 +2,7 @@
 ghost use Rattle.std.specs.Prelude.{◌≡◌, ◌≤◌, ℕ, length, false, IsTrue};
 ghost use Rattle.std.specs.Io.KnownBytes.{Keeps};
 ghost use Rattle.gor_image.specs.declared.fault.ImageFault.{ImageFault as Fault};
-ghost use Rattle.gor_image.specs.Openings.{OnlyRead};
+ghost use Rattle.gor_recover.specs.Openings.{OnlyRead};
 ghost use Rattle.gor_outside.specs.Causes.{Rose};
 ghost use Rattle.gor_run.specs.Dumps.{AsksDump, CallsFirst, DumpCompletes, EachFaultShows, HasFailed, IsOfDisk, IsOfDump, IsRefused, WritesNoDump, WroteDump, WroteDumpInPart};
 ghost use Rattle.gor_run.specs.Words.{asks_dump, words_of};
@@ -13,8 +13,8 @@ use crate::output::write_text;
 use crate::status::Status;
 use crate::words::asks_dump;
 use gor_disk::Disk;
-use gor_image::{OpenFault, recover};
 use gor_outside::Sink;
+use gor_recover::{OpenFault, recover};
 use std::alloc::Global;
 
 /// With how many slots a shard is recovered: with the most that one has.

@@ -42,7 +42,7 @@ fn text_of(alloc: Global, told: &[LaneAnswer]) -> Result<Vec<u8>, AllocError>
 {
     let mut text = Vec::new(alloc);
     for answer in told {
-        write_answer(alloc, &mut text, answer)?;
+        write_answer(&mut text, answer)?;
     }
     Ok(text)
 }

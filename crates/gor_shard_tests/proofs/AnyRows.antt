@@ -3,9 +3,9 @@ use Rattle.std.proofs.Common.{◌≡◌, ℕ, ◌+◌, ◌<◌, ◌≤◌, Bool,
 use Rattle.std.proofs.lemmas.Bool.{false≢true}
 use Rattle.gor_model.specs.Shares.{device_share}
 use Rattle.gor_image.specs.Images.{base_of}
-use Rattle.gor_image.specs.Recovered.{recovered_start}
+use Rattle.gor_recover.specs.Recovered.{recovered_start}
 use Rattle.gor_image.specs.Recovery.{base_end}
-use Rattle.gor_image.specs.declared.recovered.Recovered.{Recovered}
+use Rattle.gor_recover.specs.declared.recovered.Recovered.{Recovered}
 use Rattle.gor_flush.specs.Devices.{Shown, StandsFor}
 use Rattle.gor_flush.specs.Starts.{opened_start, start_with}
 use Rattle.gor_shard_tests.specs.Devices.{IsOfAnyRows}

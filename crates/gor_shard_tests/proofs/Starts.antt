@@ -6,9 +6,9 @@ use Rattle.gor_model.specs.Names.{key_of}
 use Rattle.gor_model.specs.Starts.{AreApart, IsRow, IsStart}
 use Rattle.gor_model.specs.declared.start.Row.{Row}
 use Rattle.gor_model.proofs.PlainNames.{plain_key}
-use Rattle.gor_image.specs.Recovered.{keyed_row, row_of, recovered_start}
-use Rattle.gor_image.specs.declared.recovered.Recovered.{Recovered}
-use Rattle.gor_image.specs.declared.recovered.RecoveredRow.{RecoveredRow}
+use Rattle.gor_recover.specs.Recovered.{keyed_row, row_of, recovered_start}
+use Rattle.gor_recover.specs.declared.recovered.Recovered.{Recovered}
+use Rattle.gor_recover.specs.declared.recovered.RecoveredRow.{RecoveredRow}
 use Rattle.gor_shard_tests.specs.Rows.{row_a, row_b}
 
 key_a : key_of (97 ∷ []) ≡ 97 ∷ []

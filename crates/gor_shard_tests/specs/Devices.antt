@@ -2,8 +2,8 @@
 use Rattle.std.specs.Prelude.{ℕ, []}
 use Rattle.gor_model.specs.Shares.{device_share}
 use Rattle.gor_model.specs.Starts.{IsStart}
-use Rattle.gor_image.specs.Recovered.{recovered_start}
-use Rattle.gor_image.specs.declared.recovered.Recovered.{Recovered}
+use Rattle.gor_recover.specs.Recovered.{recovered_start}
+use Rattle.gor_recover.specs.declared.recovered.Recovered.{Recovered}
 use Rattle.gor_flush.specs.Devices.{Shown, StandsFor}
 use Rattle.gor_flush.specs.Starts.{start_with}
 

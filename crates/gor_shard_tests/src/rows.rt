@@ -1,12 +1,12 @@
 //! What a shard recovers: two series, or none.
 ghost use Rattle.std.specs.Prelude.{◌≡◌, IfOk};
 ghost use Rattle.gor_model.specs.Starts.{IsStart};
-ghost use Rattle.gor_image.specs.Recovered.{recovered_start, row_of};
+ghost use Rattle.gor_recover.specs.Recovered.{recovered_start, row_of};
 ghost use Rattle.gor_shard_tests.specs.Rows.{borders, one_point, row_a, row_b};
 
-use gor_image::{Recovered, RecoveredRow};
 use gor_model::{Point, Points};
 use gor_name::Name;
+use gor_recover::{Recovered, RecoveredRow};
 use std::alloc::{AllocError, Global};
 use std::test::Fail;
 

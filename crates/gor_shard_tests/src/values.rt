@@ -2,7 +2,7 @@
 ghost use Rattle.std.specs.Prelude.{◌≡◌, [], false, IfOk};
 ghost use Rattle.gor_model.specs.Shares.{device_share};
 ghost use Rattle.gor_model.specs.Starts.{IsStart};
-ghost use Rattle.gor_image.specs.Recovered.{recovered_start};
+ghost use Rattle.gor_recover.specs.Recovered.{recovered_start};
 ghost use Rattle.gor_flush.specs.Devices.{StandsFor, shown};
 ghost use Rattle.gor_flush.specs.Starts.{start_with};
 ghost use Rattle.gor_shard_tests.specs.Devices.{IsOfAnyRows};
@@ -13,8 +13,8 @@ use gor_cell::Cell;
 use gor_dir::Directory;
 use gor_disk::Disk;
 use gor_flush::{Device, Part};
-use gor_image::Recovered;
 use gor_journal::Journal;
+use gor_recover::Recovered;
 use gor_store::values_of;
 use std::alloc::{AllocError, Global};
 use std::test::Fail;

@@ -25,8 +25,8 @@ use Rattle.gor_flush.specs.declared.part.Part.{Part}
 use Rattle.gor_flush.specs.declared.part.Part.TheVariants as part
 use Rattle.gor_flush.specs.Starts.{opened_start, start_with}
 use Rattle.gor_flush.specs.FitTest.{is_fit}
-use Rattle.gor_image.specs.Recovered.{recovered_start, keyed_row}
-use Rattle.gor_image.specs.declared.recovered.Recovered.{Recovered}
+use Rattle.gor_recover.specs.Recovered.{recovered_start, keyed_row}
+use Rattle.gor_recover.specs.declared.recovered.Recovered.{Recovered}
 use Rattle.gor_store.specs.declared.values.Parts.{Parts}
 use Rattle.gor_store.specs.Series.{CellsStand, series_in}
 use Rattle.gor_store.specs.Values.{ArePartsOf, in_order}

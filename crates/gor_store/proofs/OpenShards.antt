@@ -15,7 +15,7 @@ use Rattle.gor_flush.proofs.PartKinds.{is_device}
 use Rattle.gor_flush.specs.Devices.{shown}
 use Rattle.gor_flush.specs.Starts.{opened_start, start_with}
 use Rattle.gor_flush.specs.FitTest.{is_fit}
-use Rattle.gor_image.specs.declared.recovered.Recovered.{Recovered}
+use Rattle.gor_recover.specs.declared.recovered.Recovered.{Recovered}
 use Rattle.gor_store.specs.Shards.{IsFirst}
 
 pub slots_are : (slots : ℕ) (r : Recovered) (of which since faults : ℕ) (fit : Bool) → (opened_start slots r of which since faults fit).slots ≡ slots

@@ -5,9 +5,9 @@ use Rattle.std.specs.List.{AllByRecursion}
 use Rattle.gor_disk.specs.Disk.{DiskView, NothingPending}
 use Rattle.gor_model.specs.declared.start.Start.{Start}
 use Rattle.gor_flush.proofs.Opens.{read_holds}
-use Rattle.gor_image.proofs.OnlyReads.{nothing_read}
-use Rattle.gor_image.specs.declared.recovered.OpenFault.{OpenFault}
-use Rattle.gor_image.specs.declared.recovered.OpenFault.TheVariants as refused
+use Rattle.gor_recover.proofs.OnlyReads.{nothing_read}
+use Rattle.gor_recover.specs.declared.recovered.OpenFault.{OpenFault}
+use Rattle.gor_recover.specs.declared.recovered.OpenFault.TheVariants as refused
 use Rattle.gor_store.specs.Shards.{BeginsFrom}
 use Rattle.gor_store.specs.Stores.{WasRefused}
 

@@ -10,7 +10,7 @@ use Rattle.gor_cell.specs.Packed.{Packed, last_time}
 use Rattle.gor_cell.specs.Stands.{Stands}
 use Rattle.gor_cell.specs.Steps.{put_behind, put_over}
 use Rattle.gor_cell.specs.declared.cell_put.CellPut.TheVariants.{Stored}
-use Rattle.gor_image.specs.declared.recovered.RecoveredRow.{RecoveredRow}
+use Rattle.gor_recover.specs.declared.recovered.RecoveredRow.{RecoveredRow}
 use Rattle.gor_store.specs.Series.{AddsPoint, open_share}
 
 abbrev Rise : List Point → Type 0

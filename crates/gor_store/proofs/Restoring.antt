@@ -16,9 +16,9 @@ use Rattle.gor_model.proofs.SlotLaws.{bytes_tell}
 use Rattle.gor_dir.specs.Listings.{Listing, Stands, shown}
 use Rattle.gor_dir.specs.Restores.{AddsRow}
 use Rattle.gor_dir.proofs.StartSteps.{absent_in_start, free_in_start, adds_last}
-use Rattle.gor_image.specs.Recovered.{keyed_row, row_of, recovered_start}
-use Rattle.gor_image.specs.declared.recovered.Recovered.{Recovered}
-use Rattle.gor_image.specs.declared.recovered.RecoveredRow.{RecoveredRow}
+use Rattle.gor_recover.specs.Recovered.{keyed_row, row_of, recovered_start}
+use Rattle.gor_recover.specs.declared.recovered.Recovered.{Recovered}
+use Rattle.gor_recover.specs.declared.recovered.RecoveredRow.{RecoveredRow}
 use Rattle.gor_store.specs.Directories.{AreRows, RestoresRow, RaisesTo, rows_start}
 use Rattle.gor_store.proofs.Places.{map_longer, map_parted, there, first_apart, apart_before, IsOther}
 

@@ -10,7 +10,7 @@ use Rattle.gor_model.specs.Windows.{window_end, is_kept, kept}
 use Rattle.gor_cell.specs.Packed.{Packed}
 use Rattle.gor_cell.specs.Stands.{Stands}
 use Rattle.gor_cell.specs.Steps.{after_seal}
-use Rattle.gor_image.specs.declared.recovered.RecoveredRow.{RecoveredRow}
+use Rattle.gor_recover.specs.declared.recovered.RecoveredRow.{RecoveredRow}
 use Rattle.gor_store.specs.Series.{open_share, share_of_row}
 
 pub all_kept : (floor : ℕ) (points : List Point) → AllByRecursion (λ p. IsTrue (is_kept floor p)) points → kept floor points ≡ points

@@ -14,7 +14,7 @@ use Rattle.gor_model.specs.Shares.{DoneAt, device_share}
 use Rattle.gor_model.proofs.KeptLaws.{changes_split}
 use Rattle.gor_model.proofs.NumberedLaws.{device_at}
 use Rattle.gor_image.specs.Fit.{IsFitFor, FitHolds}
-use Rattle.gor_image.specs.declared.recovered.Recovered.{Recovered}
+use Rattle.gor_recover.specs.declared.recovered.Recovered.{Recovered}
 use Rattle.gor_flush.specs.Devices.{Shown, shown, device_stands, StandsFor, RunsBy, IsRunning, SettledBy, IsSettled, HoldsAll, HoldsPrefix, HoldsExactly, Prefixes, NoneAbove, Kept, last_count}
 use Rattle.gor_flush.specs.Starts.{opened_start}
 use Rattle.gor_flush.specs.FitTest.{is_fit}

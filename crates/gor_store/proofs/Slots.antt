@@ -8,8 +8,8 @@ use Rattle.gor_model.specs.Shares.{SeriesShare}
 use Rattle.gor_model.specs.Starts.{AreApart}
 use Rattle.gor_cell.specs.Stands.{Stands}
 use Rattle.gor_cell.specs.declared.cell.Cell.{Cell}
-use Rattle.gor_image.specs.Recovered.{keyed_row}
-use Rattle.gor_image.specs.declared.recovered.RecoveredRow.{RecoveredRow}
+use Rattle.gor_recover.specs.Recovered.{keyed_row}
+use Rattle.gor_recover.specs.declared.recovered.RecoveredRow.{RecoveredRow}
 use Rattle.gor_store.specs.Series.{CellsStand, series_in, share_of_row}
 use Rattle.gor_store.proofs.Places.{map_longer, map_parted, IsOther, apart_before}
 

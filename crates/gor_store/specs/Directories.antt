@@ -7,8 +7,8 @@ use Rattle.gor_model.specs.declared.start.Row.{Row}
 use Rattle.gor_model.specs.declared.start.Start.{Start}
 use Rattle.gor_dir.specs.Listings.{Listing, Stands}
 use Rattle.gor_dir.specs.Restores.{AddsRow}
-use Rattle.gor_image.specs.Recovered.{row_of}
-use Rattle.gor_image.specs.declared.recovered.RecoveredRow.{RecoveredRow}
+use Rattle.gor_recover.specs.Recovered.{row_of}
+use Rattle.gor_recover.specs.declared.recovered.RecoveredRow.{RecoveredRow}
 
 -- rows of a start with so many slots
 pub record AreRows (slots : ℕ) (rows : List (List ℕ × Row)) : Type 0 where

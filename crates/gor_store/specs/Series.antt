@@ -12,8 +12,8 @@ use Rattle.gor_cell.specs.Stands.{Stands}
 use Rattle.gor_cell.specs.Steps.{put_answer}
 use Rattle.gor_cell.specs.declared.cell.Cell.{Cell}
 use Rattle.gor_cell.specs.declared.cell_put.CellPut.TheVariants.{Stored}
-use Rattle.gor_image.specs.Recovered.{row_of}
-use Rattle.gor_image.specs.declared.recovered.RecoveredRow.{RecoveredRow}
+use Rattle.gor_recover.specs.Recovered.{row_of}
+use Rattle.gor_recover.specs.declared.recovered.RecoveredRow.{RecoveredRow}
 
 -- the row is one of a start, whatever its count of slots
 abbrev pub IsSeries : RecoveredRow → Type 0

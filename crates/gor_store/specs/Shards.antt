@@ -16,8 +16,8 @@ use Rattle.gor_hall.specs.Closings.{IsWholeHistory}
 use Rattle.gor_hall.specs.Halls.{lanes_of, IsPassOf, IsFirstPass}
 use Rattle.gor_hall.specs.Passes.{held, lane_of}
 use Rattle.gor_flush.specs.FitTest.{is_fit}
-use Rattle.gor_image.specs.Recovered.{IsRecovered}
-use Rattle.gor_image.specs.declared.recovered.Recovered.{Recovered}
+use Rattle.gor_recover.specs.Recovered.{IsRecovered}
+use Rattle.gor_recover.specs.declared.recovered.Recovered.{Recovered}
 
 -- The history begins from what the files of a shard recover to, which is what they hold where the disk tells them, at the
 -- moment at which the disk was handed in, when it had failed so often; and its start says whether these files were fit.

@@ -10,10 +10,10 @@ use Rattle.gor_finish.specs.Made.{Numbered}
 use Rattle.gor_finish.specs.declared.reply.FlushReply.{FlushReply}
 use Rattle.gor_finish.specs.declared.reply.FlushReply.TheVariants.{Flushed, Stopped, Fault}
 use Rattle.gor_flush.specs.Opening.{HoldsOn, IsUnwritten}
-use Rattle.gor_flush.specs.Steps.{GoesOn}
+use Rattle.gor_image.specs.DiskSteps.{GoesOn}
 use Rattle.gor_image.specs.Images.{opens_to}
-use Rattle.gor_image.specs.Openings.{FaultCounts, IsMet}
-use Rattle.gor_image.specs.declared.recovered.OpenFault.{OpenFault}
+use Rattle.gor_recover.specs.Openings.{FaultCounts, IsMet}
+use Rattle.gor_recover.specs.declared.recovered.OpenFault.{OpenFault}
 use Rattle.gor_text.specs.declared.workload.Line.{Line}
 use Rattle.gor_store.specs.Closings.{ClosesBy, only_last}
 use Rattle.gor_store.specs.Lines.{IsResting}

@@ -6,8 +6,8 @@ use Rattle.gor_journal.specs.Stands as journal
 use Rattle.gor_flush.specs.declared.device.Device.{Device}
 use Rattle.gor_flush.specs.declared.part.Part.{Part}
 use Rattle.gor_flush.specs.declared.part.Part.TheVariants as part
-use Rattle.gor_image.specs.Recovered.{keyed_row, recovered_start}
-use Rattle.gor_image.specs.declared.recovered.Recovered.{Recovered}
+use Rattle.gor_recover.specs.Recovered.{keyed_row, recovered_start}
+use Rattle.gor_recover.specs.declared.recovered.Recovered.{Recovered}
 use Rattle.gor_store.specs.Series.{CellsStand}
 use Rattle.gor_store.specs.declared.values.Parts.{Parts}
 

@@ -5,13 +5,13 @@ ghost use Rattle.gor_model.specs.Lists.{EachBefore};
 ghost use Rattle.gor_model.specs.Starts.{IsRow, AreApart};
 ghost use Rattle.gor_model.specs.Windows.{greatest_time};
 ghost use Rattle.gor_cell.specs.Stands.{Stands};
-ghost use Rattle.gor_image.specs.Recovered.{row_of, keyed_row};
+ghost use Rattle.gor_recover.specs.Recovered.{row_of, keyed_row};
 ghost use Rattle.gor_store.specs.Series.{AddsPoint, AreVacant, IsSeries, CellsStand, open_share, share_of_row};
 
 use gor_cell::Cell;
-use gor_image::RecoveredRow;
 use gor_model::Point;
 use gor_model::windows::window_before;
+use gor_recover::RecoveredRow;
 use std::alloc::{AllocError, Global};
 
 /// Puts a point into a live cell.

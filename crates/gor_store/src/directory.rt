@@ -5,12 +5,12 @@ ghost use Rattle.gor_model.specs.Objects.{Has};
 ghost use Rattle.gor_model.specs.Shares.{directory_share};
 ghost use Rattle.gor_model.specs.Starts.{IsFloor, IsStart};
 ghost use Rattle.gor_dir.specs.Listings.{Stands, shown};
-ghost use Rattle.gor_image.specs.Recovered.{keyed_row, recovered_start};
+ghost use Rattle.gor_recover.specs.Recovered.{keyed_row, recovered_start};
 ghost use Rattle.gor_store.specs.Directories.{AreRows, RestoresRow, RaisesTo, rows_start};
 
 use gor_dir::Directory;
-use gor_image::{Recovered, RecoveredRow};
 use gor_model::windows::window_before;
+use gor_recover::{Recovered, RecoveredRow};
 use std::alloc::{AllocError, Global};
 
 /// Takes up the series of one row.

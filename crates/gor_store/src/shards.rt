@@ -6,12 +6,12 @@ ghost use Rattle.gor_model.specs.Starts.{IsStart};
 ghost use Rattle.gor_model.specs.Windows.{slots_of_a_shard};
 ghost use Rattle.gor_marks.specs.Spelling.{IsHome};
 ghost use Rattle.gor_image.specs.Images.{opens_to};
-ghost use Rattle.gor_image.specs.Openings.{FaultCounts, IsMet};
-ghost use Rattle.gor_image.specs.Recovered.{recovered_start};
+ghost use Rattle.gor_recover.specs.Openings.{FaultCounts, IsMet};
+ghost use Rattle.gor_recover.specs.Recovered.{recovered_start};
 ghost use Rattle.gor_flush.specs.Devices.{StandsFor, shown};
 ghost use Rattle.gor_flush.specs.Opening.{HoldsOn, IsUnwritten};
 ghost use Rattle.gor_flush.specs.Starts.{start_with};
-ghost use Rattle.gor_flush.specs.Steps.{GoesOn};
+ghost use Rattle.gor_image.specs.DiskSteps.{GoesOn};
 ghost use Rattle.gor_hall.specs.Halls.{start_of, lanes_of};
 ghost use Rattle.gor_store.specs.Shards.{AreFirst, AreIdle, BeginsFrom, HasClosed, IsFirst};
 ghost use Rattle.gor_flush.specs.declared.device.Device.{Device as AnyDevice};
@@ -20,7 +20,7 @@ use crate::values::values_of;
 use gor_disk::Disk;
 use gor_flush::{Device, NoDevice, Opening, Part};
 use gor_hall::{Hall, Opened, Pass, Unopened};
-use gor_image::{OpenFault, Recovered};
+use gor_recover::{OpenFault, Recovered};
 use std::alloc::Global;
 
 /// One shard that is open, with a pass for each of its lanes in order.

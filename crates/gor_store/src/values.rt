@@ -8,7 +8,7 @@ ghost use Rattle.gor_flush.specs.Devices.{StandsFor, shown};
 ghost use Rattle.gor_flush.specs.Parts.{part_stands};
 ghost use Rattle.gor_flush.specs.Starts.{start_with};
 ghost use Rattle.gor_flush.specs.declared.part.Part.TheVariants as part;
-ghost use Rattle.gor_image.specs.Recovered.{recovered_start};
+ghost use Rattle.gor_recover.specs.Recovered.{recovered_start};
 ghost use Rattle.gor_store.specs.Shards.{IsFirst};
 ghost use Rattle.gor_store.specs.Values.{ArePartsOf, in_order};
 
@@ -18,8 +18,8 @@ use gor_cell::Cell;
 use gor_dir::Directory;
 use gor_disk::Disk;
 use gor_flush::{Device, Part};
-use gor_image::Recovered;
 use gor_journal::Journal;
+use gor_recover::Recovered;
 use std::alloc::{AllocError, Global};
 
 /// The parts of a shard that take memory.

@@ -4,9 +4,9 @@ ghost use Rattle.std.specs.Prelude.{◌≡◌, ◌+◌, ◌-◌, ◌^◌, min, [
 ghost use Rattle.gor_tally.specs.declared.rule.Rule.TheVariants.{Count};
 ghost use Rattle.gor_tally.specs.Tallies.{Meaning};
 
-use crate::spelling::push_number;
 use crate::tally::Tally;
 use gor_model::{Bytes, Points};
+use gor_text::write_number;
 use std::alloc::{AllocError, Global};
 use std::marker::Model;
 
@@ -53,7 +53,7 @@ impl Tally for Counter {
     fn close(&self, alloc: Global) -> Result<Bytes, AllocError> {
         let mut line = Vec::new(alloc);
         line.extend_from_slice(b"count ")?;
-        push_number(&mut line, self.count)?;
+        write_number(&mut line, self.count)?;
         Ok(Bytes::from_vec(line))
     }
 }

@@ -5,6 +5,7 @@ pub mod Interleaved
 pub mod LineAnswers
 pub mod OneHistory
 pub mod OneText
+pub mod Rooms
 pub mod Spelling
 pub mod Transcripts
 pub mod Workloads

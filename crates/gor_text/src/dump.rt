@@ -1,8 +1,10 @@
 //! The lines of a dump.
-ghost use Rattle.std.specs.Prelude.{◌≡◌, ◌++◌, OnOk};
+
+ghost use Rattle.std.specs.Prelude.{◌≡◌, ◌+◌, ◌*◌, ◌≤◌, ◌++◌, length, vec_len, vec_capacity, OnOk};
 ghost use Rattle.gor_text.specs.Dumps.{floor_line, series_line};
 
-use crate::spelling::{push_counted, push_number, push_points, push_text};
+use crate::piece::Piece;
+use crate::spelling::{POINT, push_points, push_text, room};
 use gor_model::Points;
 use std::alloc::AllocError;
 
@@ -10,9 +12,12 @@ use std::alloc::AllocError;
 pub fn write_floor(out: &mut Vec<u8>, shard: u32, floor: u64) -> Result<(), AllocError>
     ensures { OnOk result (out.new.items ≡ out.old.items ++ floor_line shard floor) }
 {
-    push_number(out, u64::from(shard))?;
-    push_counted(out, b" floor ", floor)?;
-    push_text(out, b"\n")
+    let mut piece = Piece::new();
+    piece.text(b"\n");
+    piece.number(floor);
+    piece.text(b" floor ");
+    piece.number(u64::from(shard));
+    out.extend_from_slice(piece.as_slice())
 }
 
 /// Adds the line `SHARD NAME floor FLOOR points K` of a dump, with ` TIME:WORD` for each of K points and its LF. After want
@@ -26,11 +31,26 @@ pub fn write_series(
 ) -> Result<(), AllocError>
     ensures { OnOk result (out.new.items ≡ out.old.items ++ series_line shard name.now floor points.now) }
 {
-    push_number(out, u64::from(shard))?;
-    push_text(out, b" ")?;
-    push_text(out, name)?;
-    push_counted(out, b" floor ", floor)?;
-    push_counted(out, b" points ", points.len() as u64)?;
-    push_points(out, points)?;
-    push_text(out, b"\n")
+    out.try_reserve(room(room(77, name.len(), 1)?, points.len(), POINT)?)?;
+    push_series(out, shard, name, floor, points);
+    Ok(())
+}
+
+/// Adds the line of a series, for which there is room.
+fn push_series(out: &mut Vec<u8>, shard: u32, name: &[u8], floor: u64, points: &Points)
+    requires { vec_len out.old + 77 + length name.now + length points.now * 38 ≤ vec_capacity out.old }
+    ensures { out.new.items ≡ out.old.items ++ series_line shard name.now floor points.now }
+{
+    let mut head = Piece::new();
+    head.text(b" ");
+    head.number(u64::from(shard));
+    push_text(out, head.as_slice());
+    push_text(out, name);
+    let mut floors = Piece::new();
+    floors.number(points.len() as u64);
+    floors.text(b" points ");
+    floors.number(floor);
+    floors.text(b" floor ");
+    push_text(out, floors.as_slice());
+    push_points(out, points);
 }

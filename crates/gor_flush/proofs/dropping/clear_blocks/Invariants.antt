@@ -1,7 +1,7 @@
 use Rattle.std.proofs.Common.{◌≡◌, take}
 use Rattle.std.specs.Prelude.{IsTrue}
 use Rattle.gor_flush.specs.Dropping.{is_block_of}
-use Rattle.gor_flush.specs.Steps.{Leaves}
+use Rattle.gor_image.specs.DiskSteps.{Leaves}
 use Rattle.gor_flush.proofs.Drops.{BlocksGone}
 use Rattle.gor_flush.proofs.dropping.clear_blocks.Given as goal
 

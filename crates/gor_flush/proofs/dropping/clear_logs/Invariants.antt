@@ -1,7 +1,7 @@
 use Rattle.std.proofs.Common.{◌≡◌}
 use Rattle.std.specs.Prelude.{IsTrue}
 use Rattle.gor_flush.specs.Dropping.{is_log_in}
-use Rattle.gor_flush.specs.Steps.{Leaves}
+use Rattle.gor_image.specs.DiskSteps.{Leaves}
 use Rattle.gor_flush.proofs.Drops.{LogsGone}
 use Rattle.gor_flush.proofs.dropping.clear_logs.Given as goal
 

@@ -1,8 +1,8 @@
 use Rattle.std.proofs.Common.{◌≡◌, List, [], ◌∷◌, ◌++◌, sym, ap, subst, ◌∙◌, true, false}
 use Rattle.gor_marks.specs.declared.mark.Mark.{Mark}
-use Rattle.gor_flush.specs.ReadFiles.{earlier, is_replaced}
-use Rattle.gor_flush.specs.Steps.{Leaves}
-use Rattle.gor_flush.proofs.Kept.{keeps}
+use Rattle.gor_image.specs.ReadFiles.{earlier, is_replaced}
+use Rattle.gor_image.specs.DiskSteps.{Leaves}
+use Rattle.gor_image.proofs.Kept.{keeps}
 use Rattle.gor_flush.proofs.MarkLists.{home_only}
 use Rattle.gor_flush.proofs.Replaced.{first_replaces}
 use Rattle.gor_flush.proofs.dropping.drop_old.Goals as goal

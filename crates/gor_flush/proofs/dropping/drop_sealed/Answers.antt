@@ -1,7 +1,7 @@
 use Rattle.std.proofs.Common.{true, ◌≡◌, ℕ, subst}
 use Rattle.gor_disk.specs.declared.disk.FileId.TheVariants.{Block}
 use Rattle.gor_flush.proofs.Results.{on_ok}
-use Rattle.gor_flush.specs.Steps.{Leaves, IsGone}
+use Rattle.gor_image.specs.DiskSteps.{Leaves, IsGone}
 use Rattle.gor_flush.specs.Dropping.{is_log_in, is_block_of}
 use Rattle.gor_flush.proofs.MarkLists.{follows_last, front_some}
 use Rattle.gor_flush.proofs.Drops.{LogsGone}

@@ -1,5 +1,5 @@
 use Rattle.gor_image.specs.Images.{current}
-use Rattle.gor_flush.specs.ReadFiles.{is_replaced}
+use Rattle.gor_image.specs.ReadFiles.{is_replaced}
 use Rattle.gor_flush.specs.Opening.{IsSameStore}
 use Rattle.gor_flush.proofs.Steps.{goes_then, runs_goes, leaves_goes}
 use Rattle.gor_flush.proofs.Results.{on_ok}

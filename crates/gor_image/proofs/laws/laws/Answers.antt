@@ -6,6 +6,9 @@ use Rattle.gor_image.proofs.Openings.{begins_itself, no_mark_is_fresh, empty_is_
 use Rattle.gor_image.proofs.BlockExact.{block_exact}
 use Rattle.gor_image.proofs.FreshHome.{home_is_fresh}
 use Rattle.gor_image.proofs.OpenAgain.{opens_again}
+use Rattle.gor_image.proofs.ReadFiles.{unread_changes_nothing}
+use Rattle.gor_image.proofs.TurnImage.{mark_turns}
+use Rattle.gor_image.proofs.LaterLogs.{later_logs}
 use Rattle.gor_image.proofs.laws.laws.Goals as goal
 
 pub returns-clause-lists : goal.returns-clause-lists
@@ -43,3 +46,12 @@ returns-clause-home c = home_is_fresh
 
 pub returns-clause-again : goal.returns-clause-again
 returns-clause-again c = opens_again
+
+pub returns-clause-unread : goal.returns-clause-unread
+returns-clause-unread c = unread_changes_nothing
+
+pub returns-clause-turns : goal.returns-clause-turns
+returns-clause-turns c = mark_turns
+
+pub returns-clause-later : goal.returns-clause-later
+returns-clause-later c = later_logs

@@ -3,7 +3,7 @@ use Rattle.std.proofs.lemmas.List.Sorted.{IsPermutation-map}
 use Rattle.std.specs.List.Sorted.{IsPermutation}
 use Rattle.std.specs.Ordering.{is_lt, nat_cmp}
 use Rattle.std.specs.Cmp.Lexicographic.{slice_cmp}
-use Rattle.gor_image.specs.Recovered.{keyed_row, recovered_start}
+use Rattle.gor_recover.specs.Recovered.{keyed_row, recovered_start}
 use Rattle.gor_run.specs.Dumps.{floor_part, row_line}
 use Rattle.gor_run.proofs.DumpParts.{IsSortedBy-map, written_whole}
 use Rattle.gor_run.proofs.dump_text.dump_text.Goals as goal

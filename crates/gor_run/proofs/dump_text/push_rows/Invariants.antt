@@ -1,6 +1,6 @@
 use Rattle.std.proofs.Common.{◌≡◌, ◌++◌, take, map}
 use Rattle.std.specs.Prelude.{flat_map}
-use Rattle.gor_image.specs.Recovered.{keyed_row}
+use Rattle.gor_recover.specs.Recovered.{keyed_row}
 use Rattle.gor_run.specs.Dumps.{row_line}
 use Rattle.gor_run.proofs.dump_text.push_rows.Given as goal
 

@@ -4,7 +4,7 @@ use Rattle.std.proofs.lemmas.List.Sorted.{ranks_by, answers_always}
 use Rattle.std.specs.Ordering.{is_lt, nat_cmp}
 use Rattle.std.specs.Cmp.Lexicographic.{slice_cmp}
 use Rattle.gor_model.specs.Names.{key_of}
-use Rattle.gor_image.specs.declared.recovered.RecoveredRow.{RecoveredRow}
+use Rattle.gor_recover.specs.declared.recovered.RecoveredRow.{RecoveredRow}
 use Rattle.gor_run.proofs.dump_text.sort_rows.Goals as goal
 
 pub returns-clause-ordered : goal.returns-clause-ordered

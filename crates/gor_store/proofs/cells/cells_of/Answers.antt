@@ -1,6 +1,6 @@
 use Rattle.std.proofs.Common.{rules, arith}
 use Rattle.gor_model.specs.Starts.{IsRow}
-use Rattle.gor_image.specs.Recovered.{keyed_row}
+use Rattle.gor_recover.specs.Recovered.{keyed_row}
 use Rattle.gor_store.proofs.Places.{there}
 use Rattle.gor_store.proofs.Slots.{row_cells}
 use Rattle.gor_store.proofs.cells.cells_of.Goals as goal

@@ -1,5 +1,5 @@
 use Rattle.std.proofs.Common.{◌≡◌, map, take, length}
-use Rattle.gor_image.specs.Recovered.{keyed_row}
+use Rattle.gor_recover.specs.Recovered.{keyed_row}
 use Rattle.gor_store.specs.Series.{CellsStand}
 use Rattle.gor_store.proofs.cells.cells_of.Given as goal
 

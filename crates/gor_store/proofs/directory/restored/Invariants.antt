@@ -1,7 +1,7 @@
 use Rattle.std.proofs.Common.{[], map, take}
 use Rattle.gor_model.specs.Shares.{directory_share}
 use Rattle.gor_dir.specs.Listings.{Stands}
-use Rattle.gor_image.specs.Recovered.{keyed_row}
+use Rattle.gor_recover.specs.Recovered.{keyed_row}
 use Rattle.gor_store.specs.Directories.{rows_start}
 use Rattle.gor_store.proofs.directory.restored.Given as goal
 

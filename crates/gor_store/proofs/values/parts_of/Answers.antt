@@ -1,6 +1,6 @@
 use Rattle.std.proofs.Common.{List, map, subst}
-use Rattle.gor_image.specs.Recovered.{keyed_row, recovered_start}
-use Rattle.gor_image.specs.declared.recovered.RecoveredRow.{RecoveredRow}
+use Rattle.gor_recover.specs.Recovered.{keyed_row, recovered_start}
+use Rattle.gor_recover.specs.declared.recovered.RecoveredRow.{RecoveredRow}
 use Rattle.gor_store.specs.Series.{CellsStand}
 use Rattle.gor_store.proofs.InOrder.{next_limits, next_is}
 use Rattle.gor_store.proofs.Restoring.{rows_are}

@@ -2,14 +2,14 @@ use Rattle.std.proofs.Common.{refl, ℕ, List, ◌∙◌, sym, ap, subst}
 use Rattle.gor_disk.specs.Disk.{DiskView}
 use Rattle.gor_marks.specs.declared.mark.Mark.{Mark}
 use Rattle.gor_marks.specs.Spelling.{IsHome}
-use Rattle.gor_image.specs.declared.recovered.LogTop.{LogTop}
+use Rattle.gor_recover.specs.declared.recovered.LogTop.{LogTop}
 use Rattle.gor_image.specs.Images.{current}
 use Rattle.gor_flush.specs.Found.{Found}
-use Rattle.gor_image.specs.Recovered.{IsRecovered}
+use Rattle.gor_recover.specs.Recovered.{IsRecovered}
 use Rattle.gor_flush.specs.Devices.{shown}
 use Rattle.gor_flush.specs.Opening.{AreFiles, HoldsOn, IsOpened}
 use Rattle.gor_flush.specs.Preparing.{device_marks}
-use Rattle.gor_flush.specs.Steps.{GoesOn}
+use Rattle.gor_image.specs.DiskSteps.{GoesOn}
 use Rattle.gor_flush.proofs.Stands.{stands_open, moved, ensured_now}
 use Rattle.gor_flush.proofs.device.Device.open.Goals as goal
 

@@ -1,6 +1,0 @@
-use Rattle.std.proofs.Common.{◌≡◌, ◌++◌, drop}
-use Rattle.gor_image.specs.StoreReads.{live_from}
-use Rattle.gor_image.proofs.base.live_windows.Given as goal
-
-abbrev pub invariant-loop-mark : goal.invariant-loop-mark
-invariant-loop-mark l = l.windows.items ++ live_from l.last (drop l.mark-index l.marks) ≡ live_from l.last l.marks

@@ -1,7 +1,0 @@
-use Rattle.gor_image.specs.Parts.{key_shown}
-use Rattle.gor_image.specs.KeyReads.{IsKeyAt}
-use Rattle.gor_image.proofs.PlacedKeys.{shown_at}
-use Rattle.gor_image.proofs.keys.keys_after.Goals as goal
-
-pub key_after-requires : goal.key_after-requires
-key_after-requires c = (shown_at key_shown IsKeyAt c.args.placed.now c.loop-entry.entry-index c.entry-item.result c.requires c.loop-entry-test.true c.entry-item.is).place

@@ -1,7 +1,0 @@
-use Rattle.std.proofs.Common.{◌≡◌, ◌++◌, take, map}
-use Rattle.gor_image.specs.Ranges.{range_of}
-use Rattle.gor_image.specs.Parts.{batch_shown}
-use Rattle.gor_image.proofs.logs.push_ranges.Given as goal
-
-abbrev pub invariant-loop-part : goal.invariant-loop-part
-invariant-loop-part l = l.ranges.items ≡ l.initial.ranges.items ++ map range_of (map batch_shown (take l.part-index l.parts))

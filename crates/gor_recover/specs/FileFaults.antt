@@ -1,0 +1,23 @@
+-- Why the bytes of a file are not read as records.
+use Rattle.std.specs.Prelude.{◌≡◌, Result, Ok, Err, ⊤}
+use Rattle.gor_disk.specs.declared.disk.FileId.{FileId}
+use Rattle.gor_image.specs.declared.fault.ImageFault.TheVariants as image
+use Rattle.gor_recover.specs.declared.recovered.OpenFault.{OpenFault}
+use Rattle.gor_recover.specs.declared.recovered.OpenFault.TheVariants as refused
+use Rattle.gor_recover.specs.declared.file_fault.FileFault.{FileFault}
+use Rattle.gor_recover.specs.declared.file_fault.FileFault.TheVariants.{Damaged, NoMemory}
+use Rattle.gor_image.specs.Grammars.{Reads, wrong}
+
+-- a fault of the bytes of a file, of the file
+abbrev pub in_its_file : FileId → FileFault → OpenFault
+in_its_file file (Damaged at kind) = refused.Image (image.Damage file at kind)
+in_its_file file NoMemory = refused.NoMemory
+
+-- a fault of the reader is the damage that reading meets, unless memory is wanting
+abbrev pub Fails : {Y : Type 0} → FileFault → Reads Y → Type 0
+Fails (Damaged at kind) read = read ≡ wrong at kind
+Fails NoMemory read = ⊤
+
+abbrev pub Gives : {X Y : Type 0} → (X → Y) → Result X FileFault → Reads Y → Type 0
+Gives view (Ok x) read = read ≡ Ok (view x)
+Gives view (Err e) read = Fails e read
