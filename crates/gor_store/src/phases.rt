@@ -1,4 +1,4 @@
-//! A phase: its lanes beside each other, each in a thread of its own where one can be made.
+//! A phase: its lanes beside each other, each in a thread of its own where two have lines and one can be made.
 ghost use Rattle.std.specs.Prelude.{◌≡◌, ℕ, ◌<◌, ◌≤◌, length, map, slice_index_or, IfOk, OnErr};
 ghost use Rattle.gor_model.specs.Windows.{slots_of_a_shard};
 ghost use Rattle.gor_hall.specs.Halls.{start_of};
@@ -124,6 +124,14 @@ impl<D: Disk> HasShard<D> for Hall<Part<D>> {
     }
 }
 
+// In how many threads the lanes run: in this one where at most one of them has lines, and else each in one of its own.
+fn threads_for(phase: &[Vec<Line>]) -> usize
+    ensures { 0 < result }
+{
+    let busy = phase.iter().filter(|lines| !lines.is_empty()).count();
+    if busy < 2 { 1 } else { 8 }
+}
+
 // Runs the lanes of a phase beside each other. No pass is lost, whatever a lane meets: a lane that finds no memory leaves its
 // pass and its place as the others do, and stops none of them. To stop them would need a word that all lanes read, and the
 // events that they have made by then stand either way.
@@ -144,7 +152,7 @@ fn run_lanes<D: Disk + Send, S: HasShard<D> + Sync, P: Pause + Sync, R: Threads 
     thread::for_each_mut(
         rt,
         lanes,
-        8,
+        threads_for(phase),
         &|place, lane| -> ()
             requires { (place < length phase.now) × IsReady (S.shard_of shared.now) (lines_at (map (λ lines. lines.items) phase.now) place) lane.old.pass × ((start_of (S.shard_of shared.now)).slots ≤ slots_of_a_shard) }
             ensures { HasWorked (S.shard_of shared.entry.now) (lines_at (map (λ lines. lines.items) phase.entry.now) place) before lane.old lane.new }
