@@ -7,7 +7,7 @@ use crate::fault::Fault;
 use crate::report::{Spent, nanos_since, now, print_row, tenths};
 use crate::words::{KINDS, Kind, Series, sum_of};
 use gor_block::Block;
-use gor_cell::{Cell, CellPut, Copied, LiveCell};
+use gor_cell::{BoxedBlock, Cell, CellPut, Copied, LiveCell, SealedRing};
 use gor_model::Unit;
 use gor_name::{Name, NameFault};
 use gor_ring::Ring;
@@ -130,30 +130,43 @@ fn read_days(copies: &mut Vec<Copied>, wanted: u64) -> Result<(), Fault> {
     Ok(())
 }
 
-/// The bytes that open blocks lie in, with those for later bits.
-fn bytes_of_later(blocks: Vec<Block>) -> u64 {
-    let mut bytes = blocks.capacity() as u64 * size_of::<Block>() as u64;
+/// The bytes of a block's box, and those that its bits lie in, with those for later bits.
+fn bytes_behind(kept: BoxedBlock) -> u64 {
+    let block = Box::into_inner(kept.boxed);
+    (size_of::<Block>() as u64).saturating_add(block.bits.into_bytes().capacity() as u64)
+}
+
+fn bytes_of_later(blocks: Vec<BoxedBlock>) -> u64 {
+    let mut bytes = blocks.capacity() as u64 * size_of::<BoxedBlock>() as u64;
     for block in blocks {
-        bytes = bytes.saturating_add(block.bits.into_bytes().capacity() as u64);
+        bytes = bytes.saturating_add(bytes_behind(block));
     }
     bytes
 }
 
-/// The bytes behind the sealed blocks, in the place of each of which a block with no points is left.
-fn bytes_of_sealed(alloc: Global, mut ring: Ring<Block>) -> Result<u64, Fault> {
-    let mut bytes = 0u64;
+/// The ring's own bytes and those behind its blocks, in the place of each of which a block with no points is left.
+fn bytes_of_ring(alloc: Global, mut ring: Ring<BoxedBlock>) -> Result<u64, Fault> {
+    let mut bytes = size_of::<Ring<BoxedBlock>>() as u64;
     for window in 0..WINDOWS {
         if ring.first() > 0 {
             return Err(Fault::Wrong);
         }
-        if let Some(block) = ring.put(window, Block::new(alloc, Unit::Second, window)) {
-            bytes = bytes.saturating_add(block.bits.into_bytes().capacity() as u64);
+        let boxed = Box::new(alloc, Block::new(alloc, Unit::Second, window))?;
+        if let Some(block) = ring.put(window, BoxedBlock { boxed }) {
+            bytes = bytes.saturating_add(bytes_behind(block));
         }
     }
     Ok(bytes)
 }
 
-/// The bytes that a cell lies in: its own, which hold the ring's places, and those that are on the heap.
+fn bytes_of_sealed(alloc: Global, sealed: SealedRing) -> Result<u64, Fault> {
+    match sealed.ring {
+        Some(ring) => bytes_of_ring(alloc, Box::into_inner(ring)),
+        None => Ok(0),
+    }
+}
+
+/// The bytes that a cell lies in: its own, and those that are on the heap.
 fn bytes_of(alloc: Global, cell: Cell) -> Result<u64, Fault> {
     let Some(live) = cell.live else {
         return Err(Fault::Wrong);

@@ -8,6 +8,7 @@ ghost use Rattle.gor_cell.specs.Packed.{points_in, standing, last_time};
 ghost use Rattle.gor_cell.specs.Steps.{IsOpen};
 ghost use Rattle.gor_cell.specs.Blocks.{bare, chosen, is_chosen, AddsCopies, has_point, AreLater, MayCome, Trimmed, lacks_points, with_last, roomy, lies_in, leading, IsLeading, with_block, with_blocks};
 
+use crate::boxed::BoxedBlock;
 use gor_block::Block;
 use gor_model::windows::window_of;
 use gor_model::{Point, Unit};
@@ -15,14 +16,14 @@ use gor_ring::Ring;
 use std::alloc::{AllocError, Global};
 
 /// The window of a block.
-fn window_in(block: &Block) -> u32
+fn window_in(block: &BoxedBlock) -> u32
     ensures { result ≡ block.now.window }
 {
-    block.window
+    block.window()
 }
 
 /// Whether a block has a point.
-fn has_points(block: &Block) -> bool
+fn has_points(block: &BoxedBlock) -> bool
     ensures { result ≡ has_point block.now }
 {
     block.last().is_some()
@@ -33,7 +34,7 @@ fn has_points(block: &Block) -> bool
 /// The time of the last point of some blocks. Blocks with no points stand at the end alone, and there is one at most, so this
 /// looks at one block or two.
 #[tactic(auto, using(crate::proofs::Points::time_snoc_some, crate::proofs::Points::time_snoc_none))]
-pub fn last_in(blocks: &[Block]) -> Option<u64>
+pub fn last_in(blocks: &[BoxedBlock]) -> Option<u64>
     ensures { result ≡ last_time (points_in blocks.now) }
 {
     for block in blocks.iter().rev() {
@@ -46,7 +47,7 @@ pub fn last_in(blocks: &[Block]) -> Option<u64>
 
 /// The time of the last point of the blocks that stand in some places.
 #[tactic(auto, using(crate::proofs::Points::time_standing_some, crate::proofs::Points::time_standing_none, crate::proofs::Points::time_standing_gap))]
-pub fn last_standing(places: &[Option<Block>]) -> Option<u64>
+pub fn last_standing(places: &[Option<BoxedBlock>]) -> Option<u64>
     ensures { result ≡ last_time (points_in (standing places.now)) }
 {
     for place in places.iter().rev() {
@@ -64,7 +65,7 @@ pub fn last_standing(places: &[Option<Block>]) -> Option<u64>
 /// Adds copies of the blocks of the windows `first` to `last` that have a point.
 #[tactic(auto, using(crate::proofs::Copies::pending_first, crate::proofs::Copies::pending_next, crate::proofs::Copies::pending_last))]
 pub fn copy_later(
-    blocks: &[Block],
+    blocks: &[BoxedBlock],
     first: u64,
     last: u64,
     copies: &mut Vec<Block>,
@@ -80,7 +81,7 @@ pub fn copy_later(
 /// Adds copies of the blocks that stand in some places, of the windows `first` to `last`, that have a point.
 #[tactic(auto, using(crate::proofs::Copies::pending_first, crate::proofs::Copies::pending_next, crate::proofs::Copies::pending_last))]
 pub fn copy_standing(
-    places: &[Option<Block>],
+    places: &[Option<BoxedBlock>],
     first: u64,
     last: u64,
     copies: &mut Vec<Block>,
@@ -98,7 +99,7 @@ pub fn copy_standing(
 /// Adds a copy of a block where it lies in the windows `first` to `last` and has a point.
 #[tactic(auto, using(crate::proofs::Copies::copies_none, crate::proofs::Copies::copies_one))]
 fn copy_chosen(
-    block: &Block,
+    block: &BoxedBlock,
     first: u64,
     last: u64,
     copies: &mut Vec<Block>,
@@ -112,7 +113,7 @@ fn copy_chosen(
 }
 
 /// Whether a block lies in the windows `first` to `last` and has a point.
-fn is_meant(block: &Block, first: u64, last: u64) -> bool
+fn is_meant(block: &BoxedBlock, first: u64, last: u64) -> bool
     ensures { result ≡ is_chosen first last block.now }
 {
     let window = u64::from(window_in(block));
@@ -123,7 +124,7 @@ fn is_meant(block: &Block, first: u64, last: u64) -> bool
 
 /// Makes room for a point at a time, in the last block or a new one. Want of memory leaves the points as they were.
 #[tactic(auto, using(crate::proofs::Later::open_added, crate::proofs::Later::open_reserved, crate::proofs::Later::later_reserved, crate::proofs::Later::trim_later, crate::proofs::Later::trim_points, crate::proofs::Later::opened_later, crate::proofs::Later::opened_points, crate::proofs::Later::reserved_points))]
-pub fn open_for(alloc: Global, later: &mut Vec<Block>, time: u64) -> Result<(), AllocError>
+pub fn open_for(alloc: Global, later: &mut Vec<BoxedBlock>, time: u64) -> Result<(), AllocError>
     requires { time ≤ greatest_time }
     ensures points { points_in later.new.items ≡ points_in later.old.items }
     ensures later { (floor : ℕ) → MayCome floor time later.old.items → AreLater floor later.old.items → AreLater floor later.new.items }
@@ -140,7 +141,7 @@ pub fn open_for(alloc: Global, later: &mut Vec<Block>, time: u64) -> Result<(), 
 
 /// Drops blocks with no points at the end.
 #[tactic(auto, using(crate::proofs::Later::trim_none, crate::proofs::Later::trim_pop))]
-fn drop_empty(later: &mut Vec<Block>)
+fn drop_empty(later: &mut Vec<BoxedBlock>)
     ensures trimmed { Trimmed later.old.items later.new.items }
     ensures ends { lacks_points (last_of later.new.items) ≡ false }
 {
@@ -151,7 +152,7 @@ fn drop_empty(later: &mut Vec<Block>)
 
 /// Whether there is a last block, and it has no point.
 #[tactic(auto, using(crate::proofs::Ends::get_last))]
-fn ends_empty(later: &[Block]) -> bool
+fn ends_empty(later: &[BoxedBlock]) -> bool
     ensures { result ≡ lacks_points (last_of later.now) }
 {
     match later.last() {
@@ -162,7 +163,7 @@ fn ends_empty(later: &[Block]) -> bool
 
 /// Whether the last block lies in a window.
 #[tactic(auto, using(crate::proofs::Ends::get_last))]
-fn ends_in(later: &[Block], window: u32) -> bool
+fn ends_in(later: &[BoxedBlock], window: u32) -> bool
     ensures { result ≡ lies_in window (last_of later.now) }
 {
     match later.last() {
@@ -173,7 +174,7 @@ fn ends_in(later: &[Block], window: u32) -> bool
 
 /// Makes room for a point in the last block.
 #[tactic(auto, using(crate::proofs::Points::roomy_at))]
-fn reserve_last(later: &mut Vec<Block>) -> Result<(), AllocError>
+fn reserve_last(later: &mut Vec<BoxedBlock>) -> Result<(), AllocError>
     requires { 1 ≤ length later.old.items }
     ensures ok { OnOk result (later.new.items ≡ with_last roomy later.old.items) }
     ensures err { OnErr result (later.new.items ≡ later.old.items) }
@@ -183,19 +184,19 @@ fn reserve_last(later: &mut Vec<Block>) -> Result<(), AllocError>
 }
 
 /// Adds a block of a window with room for a point.
-fn add_block(alloc: Global, later: &mut Vec<Block>, window: u32) -> Result<(), AllocError>
+fn add_block(alloc: Global, later: &mut Vec<BoxedBlock>, window: u32) -> Result<(), AllocError>
     requires { window ≤ last_window }
     ensures ok { OnOk result (later.new.items ≡ later.old.items ++ record { unit = store_unit; window = window; points = []; room = point_room } ∷ []) }
     ensures err { OnErr result (later.new.items ≡ later.old.items) }
 {
     let mut block = Block::new(alloc, Unit::of_the_store(), window);
     block.reserve()?;
-    later.push(block)?;
+    later.push(BoxedBlock::new(alloc, block)?)?;
     Ok(())
 }
 
 /// Puts a point into the last block, which has the room. It takes no memory.
-pub fn push_last(later: &mut Vec<Block>, point: Point)
+pub fn push_last(later: &mut Vec<BoxedBlock>, point: Point)
     requires open { IsOpen point.time later.old.items }
     requires next { IfSome (last_of later.old.items) (λ b. MayFollow b point) }
     ensures later { later.new.items ≡ with_last (λ b. followed b point) later.old.items }
@@ -211,7 +212,7 @@ pub fn push_last(later: &mut Vec<Block>, point: Point)
 
 /// Moves the blocks of the windows up to one into the ring, and drops those below its first window. It takes no memory.
 #[tactic(auto, using(crate::proofs::Moves::moving_first, crate::proofs::Moves::moving_next, crate::proofs::Moves::moving_fits, crate::proofs::Moves::moving_end))]
-pub fn move_leading(later: &mut Vec<Block>, sealed: &mut Ring<Block>, window: u32)
+pub fn move_leading(later: &mut Vec<BoxedBlock>, sealed: &mut Ring<BoxedBlock>, window: u32)
     requires { window < sealed.old.first + 12 }
     ensures later { later.new.items ≡ drop (leading window later.old.items) later.old.items }
     ensures sealed { sealed.new ≡ with_blocks (take (leading window later.old.items) later.old.items) sealed.old }
@@ -224,7 +225,7 @@ pub fn move_leading(later: &mut Vec<Block>, sealed: &mut Ring<Block>, window: u3
 
 /// How many blocks in front lie in windows up to one.
 #[tactic(auto, using(crate::proofs::Moves::counted_first, crate::proofs::Moves::counted_next, crate::proofs::Moves::counted_stop, crate::proofs::Moves::counted_end))]
-fn count_leading(later: &[Block], window: u32) -> usize
+fn count_leading(later: &[BoxedBlock], window: u32) -> usize
     ensures { IsLeading window later.now result }
 {
     let mut count = 0;
@@ -238,7 +239,7 @@ fn count_leading(later: &[Block], window: u32) -> usize
 }
 
 /// Puts a block into the ring, where its window has a place or a later one, and else drops it.
-fn seal_block(sealed: &mut Ring<Block>, block: Block)
+fn seal_block(sealed: &mut Ring<BoxedBlock>, block: BoxedBlock)
     requires { block.window < sealed.old.first + 12 }
     ensures { sealed.new ≡ with_block block sealed.old }
 {

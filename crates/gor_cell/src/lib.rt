@@ -7,6 +7,7 @@
 //! - `cell`: [`Cell`], vacant or live, with every call.
 //! - `live`: [`LiveCell`], the series of a live cell.
 //! - `blocks`: what is done to a list of blocks.
+//! - `boxed`: [`BoxedBlock`], a block that lies in a box.
 //! - `copied`: [`Copied`], blocks that were copied for a read, and [`SealedBlocks`].
 //! - `cell_put`: [`CellPut`], what a put is answered.
 //!
@@ -15,11 +16,13 @@
 #![tactic(auto)]
 
 mod blocks;
+mod boxed;
 mod cell;
 mod cell_put;
 mod copied;
 mod live;
 
+pub use boxed::BoxedBlock;
 pub use cell::Cell;
 pub use cell_put::CellPut;
 pub use copied::{Copied, SealedBlocks};

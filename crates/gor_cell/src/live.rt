@@ -9,6 +9,7 @@ ghost use Rattle.gor_cell.specs.Steps.{begun_empty, put_over, after_put, HasRoom
 use crate::blocks::{
     copy_later, copy_standing, last_in, last_standing, move_leading, open_for, push_last,
 };
+use crate::boxed::BoxedBlock;
 use crate::cell_put::CellPut;
 use crate::copied::{Copied, SealedBlocks};
 use gor_block::Block;
@@ -28,10 +29,10 @@ pub struct LiveCell {
     pub uid: u64,
     /// The floor, in the store's unit.
     pub floor: u64,
-    /// The blocks that are not sealed, by rising window.
-    pub later: Vec<Block>,
-    /// The sealed blocks, the last twelve windows up to the floor.
-    pub sealed: Ring<Block>,
+    /// The blocks that are not sealed, by rising window, each in a box.
+    pub later: Vec<BoxedBlock>,
+    /// The sealed blocks in their boxes, the last twelve windows up to the floor.
+    pub sealed: Ring<BoxedBlock>,
 }
 
 impl Model for LiveCell {

@@ -1,9 +1,10 @@
 //! Tests of cells: a case is what is done to one cell, step by step, with what is wanted of each step.
 use gor_block::Block;
-use gor_cell::{Cell, CellPut, LiveCell};
+use gor_cell::{BoxedBlock, Cell, CellPut, LiveCell};
 use gor_name::Name;
 use gor_ring::Ring;
 use std::alloc::{AllocError, Global};
+use std::mem::size_of;
 use std::process::Abort;
 use std::test::Fail;
 
@@ -298,7 +299,7 @@ fn counts(cell: &Cell, from: u64, to: u64, count: usize) -> Result<bool, AllocEr
 }
 
 /// Takes a live cell apart: it has these five fields, and no other place for a point.
-fn blocks_of(live: &LiveCell) -> (&[Block], &Ring<Block>) {
+fn blocks_of(live: &LiveCell) -> (&[BoxedBlock], &Ring<BoxedBlock>) {
     let LiveCell {
         name: _,
         uid: _,
@@ -314,7 +315,8 @@ fn has_later(cell: &Cell, blocks: &[(u32, u32, usize)]) -> bool {
         return false;
     };
     let (later, _) = blocks_of(live);
-    for (block, (window, count, bits)) in later.iter().zip(blocks) {
+    for (later, (window, count, bits)) in later.iter().zip(blocks) {
+        let block = &*later.boxed;
         if block.window != *window || block.count != *count || block.bits.len() != *bits {
             return false;
         }
@@ -345,4 +347,12 @@ fn cells_do_what_their_cases_say(rt: HostRuntime) -> Result<(), Fail> {
         run(&rt, rt.alloc(), case, steps)?;
     }
     Ok(())
+}
+
+/// The most bytes that a cell may have, since it is moved at each take and give.
+const MOST_BYTES: usize = 256;
+
+#[test]
+fn a_cell_is_small_where_it_is_moved(rt: HostRuntime) {
+    assert!(rt; size_of::<Cell>() <= MOST_BYTES);
 }
