@@ -5,7 +5,8 @@ use Rattle.gor_model.specs.declared.point.Point.{Point}
 use Rattle.gor_model.specs.Windows.{store_unit, window, window_length, per}
 use Rattle.gor_model.specs.PlainMap.{last_of}
 use Rattle.gor_block.specs.PointBlock.{PointBlock, IsBlock}
-use Rattle.gor_ring.specs.Places.{Places}
+use Rattle.gor_ring.specs.Places.{Places, empty}
+use Rattle.std.specs.Global.{Box}
 
 -- the blocks that are sealed, in a ring, and those that are not, by rising window
 pub record Packed : Type 0 where
@@ -14,6 +15,11 @@ pub record Packed : Type 0 where
   pub floor : ℕ
   pub later : List PointBlock
   pub sealed : Places PointBlock
+
+-- the ring in a box; one with no items where there is no box
+abbrev pub places_of : Option (Box (Places PointBlock)) → Places PointBlock
+places_of None = empty
+places_of (Some b) = b.value
 
 -- ---- blocks and points
 

@@ -8,6 +8,7 @@
 //! - `live`: [`LiveCell`], the series of a live cell.
 //! - `blocks`: what is done to a list of blocks.
 //! - `boxed`: [`BoxedBlock`], a block that lies in a box.
+//! - `ring`: [`SealedRing`], the ring of the sealed blocks, in a box that the first seal makes.
 //! - `copied`: [`Copied`], blocks that were copied for a read, and [`SealedBlocks`].
 //! - `cell_put`: [`CellPut`], what a put is answered.
 //!
@@ -21,9 +22,11 @@ mod cell;
 mod cell_put;
 mod copied;
 mod live;
+mod ring;
 
 pub use boxed::BoxedBlock;
 pub use cell::Cell;
 pub use cell_put::CellPut;
 pub use copied::{Copied, SealedBlocks};
 pub use live::LiveCell;
+pub use ring::SealedRing;

@@ -6,17 +6,15 @@ ghost use Rattle.gor_cell.specs.Packed.{blocks_of, points_of, last_time};
 ghost use Rattle.gor_cell.specs.Stands.{ByShare, KeepsShare, Stands, StandsFor};
 ghost use Rattle.gor_cell.specs.Steps.{begun_empty, put_over, after_put, HasRoom, IsCopyOf, after_seal, ArePieces};
 
-use crate::blocks::{
-    copy_later, copy_standing, last_in, last_standing, move_leading, open_for, push_last,
-};
+use crate::blocks::{copy_later, last_in, open_for, push_last};
 use crate::boxed::BoxedBlock;
 use crate::cell_put::CellPut;
 use crate::copied::{Copied, SealedBlocks};
+use crate::ring::{SealedRing, take_in};
 use gor_block::Block;
 use gor_model::Point;
 use gor_model::windows::{end_of, window_of};
 use gor_name::Name;
-use gor_ring::Ring;
 use std::alloc::{AllocError, Global};
 use std::marker::Model;
 
@@ -32,7 +30,7 @@ pub struct LiveCell {
     /// The blocks that are not sealed, by rising window, each in a box.
     pub later: Vec<BoxedBlock>,
     /// The sealed blocks in their boxes, the last twelve windows up to the floor.
-    pub sealed: Ring<BoxedBlock>,
+    pub sealed: SealedRing,
 }
 
 impl Model for LiveCell {
@@ -55,7 +53,7 @@ impl LiveCell {
             uid,
             floor,
             later: Vec::new(alloc),
-            sealed: Ring::new(),
+            sealed: SealedRing::new(),
         }
     }
 
@@ -65,7 +63,7 @@ impl LiveCell {
     {
         match last_in(&self.later) {
             Some(time) => Some(time),
-            None => last_standing(self.sealed.places()),
+            None => self.sealed.last(),
         }
     }
 
@@ -112,7 +110,7 @@ impl LiveCell {
         ensures { IfOk result (λ copies. AddsCopies (chosen first last (blocks_of self.now)) [] copies.items) }
     {
         let mut copies = Vec::new(alloc);
-        copy_standing(self.sealed.places(), first, last, &mut copies)?;
+        self.sealed.copy_into(first, last, &mut copies)?;
         copy_later(&self.later, first, last, &mut copies)?;
         Ok(copies)
     }
@@ -145,8 +143,8 @@ impl LiveCell {
     {
         let oldest = window.saturating_sub(11);
         let blocks = self.copies(alloc, u64::from(first.max(oldest)), u64::from(window))?;
-        self.sealed.advance(oldest);
-        move_leading(&mut self.later, &mut self.sealed, window);
+        let ring = self.sealed.take(alloc)?;
+        self.sealed = take_in(ring, oldest, &mut self.later, window);
         self.floor = end_of(window);
         Ok(SealedBlocks { blocks })
     }

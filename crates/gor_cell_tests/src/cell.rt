@@ -1,8 +1,7 @@
 //! Tests of cells: a case is what is done to one cell, step by step, with what is wanted of each step.
 use gor_block::Block;
-use gor_cell::{BoxedBlock, Cell, CellPut, LiveCell};
+use gor_cell::{BoxedBlock, Cell, CellPut, LiveCell, SealedRing};
 use gor_name::Name;
-use gor_ring::Ring;
 use std::alloc::{AllocError, Global};
 use std::mem::size_of;
 use std::process::Abort;
@@ -299,7 +298,7 @@ fn counts(cell: &Cell, from: u64, to: u64, count: usize) -> Result<bool, AllocEr
 }
 
 /// Takes a live cell apart: it has these five fields, and no other place for a point.
-fn blocks_of(live: &LiveCell) -> (&[BoxedBlock], &Ring<BoxedBlock>) {
+fn blocks_of(live: &LiveCell) -> (&[BoxedBlock], &SealedRing) {
     let LiveCell {
         name: _,
         uid: _,
@@ -329,7 +328,10 @@ fn is_split(cell: &Cell, count: usize, first: u32, there: u32) -> bool {
         return false;
     };
     let (later, sealed) = blocks_of(live);
-    later.len() == count && sealed.first() == first && sealed.get(there).is_some()
+    match &sealed.ring {
+        Some(ring) => later.len() == count && ring.first() == first && ring.get(there).is_some(),
+        None => false,
+    }
 }
 
 /// Does the steps of a case on a new cell.

@@ -14,6 +14,4 @@ pub returns-in-None : goal.returns-in-None
 returns-in-None c =
     let inside = c.self.inside in
     let later : last_time (points_in inside.later.items) ≡ None = ap (λ (l : List PointBlock). last_time (points_in l)) (sym c.deref.ensures.value) ∙ (sym c.last_in.ensures ∙ c.in-None.is) in
-    c.last_standing.ensures
-    ∙ (ap (λ (l : List (Option PointBlock)). last_time (points_in (standing l))) c.places.ensures.places
-    ∙ (sym (later_last_none inside.sealed.items inside.later.items later) ∙ ap (λ (s : Packed). last_time (points_of s)) c.self.view_is))
+    c.last.ensures ∙ (sym (later_last_none inside.sealed.items inside.later.items later) ∙ ap (λ (s : Packed). last_time (points_of s)) c.self.view_is)
