@@ -6,7 +6,7 @@ use Rattle.std.specs.List.{AllByRecursion}
 use Rattle.gor_model.specs.Lists.{EachBefore}
 use Rattle.gor_model.specs.declared.start.Row.{Row}
 use Rattle.gor_model.specs.declared.start.Start.{Start}
-use Rattle.gor_model.specs.Windows.{window_end, is_kept, last_window, greatest_time}
+use Rattle.gor_model.specs.Windows.{window_end, is_kept, last_window, greatest_time, slots_of_a_shard}
 use Rattle.gor_model.specs.Names.{key_of}
 
 abbrev pub row_in : List (List ℕ × Row) → List ℕ → Option Row
@@ -31,6 +31,7 @@ AreApart [] = ⊤
 AreApart (q ∷ rows) = AllByRecursion (λ r. (r.0 ≢ q.0) × (r.1.slot ≢ q.1.slot)) rows × AreApart rows
 
 pub record IsStart (start : Start) : Type 0 where
+  pub slots : start.slots ≤ slots_of_a_shard
   pub floor : IsFloor start.floor
   pub next : (1 ≤ start.next) × (start.next ≤ 2 ^ 62)
   pub rows : AllByRecursion (λ r. IsRow start.slots r.0 r.1) start.rows
