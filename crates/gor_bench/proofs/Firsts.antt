@@ -49,6 +49,7 @@ apart a b other e = other (heads a b [] [] e)
 
 pub four_series_is_start : IsStart four_series
 four_series_is_start = record {
+  slots = omega arith;
   floor = inl refl;
   next = (omega arith, omega arith);
   rows = (row_is 97 0 (omega arith) (omega arith) (omega arith), (row_is 98 1 (omega arith) (omega arith) (omega arith), (row_is 99 2 (omega arith) (omega arith) (omega arith), (row_is 100 3 (omega arith) (omega arith) (omega arith), tt))));

@@ -13,8 +13,8 @@ ghost use Rattle.gor_flush.specs.Writes.{raised};
 use crate::device::Device;
 use gor_disk::Disk;
 use gor_gate::Gated;
-use gor_recover::LogTop;
 use gor_marks::Mark;
+use gor_recover::LogTop;
 use std::alloc::AllocError;
 
 impl<D: Disk> Device<D> {
@@ -118,7 +118,9 @@ fn turn_logs(mark: Mark, tops: &mut Vec<LogTop>)
     ensures { tops.new.items ≡ turned_tops mark tops.old.items }
 {
     if let Mark::Sealed {
-        keys, first_log, ..
+        keys,
+        first_log,
+        ..
     } = mark
     {
         keep_from(first_log, tops);

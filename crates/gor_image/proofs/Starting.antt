@@ -5,7 +5,7 @@ use Rattle.std.specs.List.{AllByRecursion, cons_option}
 use Rattle.std.specs.Str.{bytes_eq}
 use Rattle.std.proofs.lemmas.Bool.{cases_lt}
 use Rattle.gor_model.specs.declared.point.Point.{Point}
-use Rattle.gor_model.specs.Windows.{window_end, is_kept, kept, last_window, greatest_time}
+use Rattle.gor_model.specs.Windows.{window_end, is_kept, kept, last_window, greatest_time, slots_of_a_shard}
 use Rattle.gor_model.specs.Names.{key_of}
 use Rattle.gor_model.specs.declared.start.Row.{Row}
 use Rattle.gor_model.specs.Starts.{IsFloor, IsRow, IsStart}
@@ -171,9 +171,10 @@ pub record InLimits (files : Files) : Type 0 where
   pub blocks : AllByRecursion (λ b. AllByRecursion IsTimely b.points) files.blocks
 
 module _ (files : Files) (names : Names) (slots : ℕ) (recover : RecoverTo files names) (fit : Fits (recovered files names)) (limits : InLimits files) where
-  -- where no name needs a slot beyond those given and the numbers do not end, an opening gives a start
-  pub is_start : ((k : List ℕ) (r : Row) → (recovered files names).row k ≡ Some r → r.slot < slots) → next_of files ≤ 2 ^ 62 → IsStart (start_of slots (recovered files names))
-  is_start enough not_worn = record {
+  -- where no name needs a slot beyond those given, a shard may have these and the numbers do not end, an opening gives a start
+  pub is_start : ((k : List ℕ) (r : Row) → (recovered files names).row k ≡ Some r → r.slot < slots) → next_of files ≤ 2 ^ 62 → slots ≤ slots_of_a_shard → IsStart (start_of slots (recovered files names))
+  is_start enough not_worn few = record {
+    slots = few;
     floor = greatest_floor (base_end files.base.window) (filter_map floor_end (log_records files.batches)) limits.window (floors_in (log_records files.batches) limits.log);
     next = (omega arith, not_worn);
     rows = all_weaker (λ (r : List ℕ × Row). (recovered files names).row r.0 ≡ Some r.1) (λ (r : List ℕ × Row). IsRow slots r.0 r.1) (rows_of (recovered files names)) (λ r is. one r.0 r.1 is) (rows_are (recovered files names));

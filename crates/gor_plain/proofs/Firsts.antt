@@ -55,6 +55,7 @@ module _ (d : Device) (index : Directory) (c : Cell) (j : Journal) (device : dev
 
 pub one_series_is_start : IsStart one_series
 one_series_is_start = record {
+  slots = omega arith;
   floor = inl refl;
   next = (omega arith, omega arith);
   rows = (record { keyed = sym key_a; slot = omega arith; uid = (omega arith, omega arith); floor = inl refl; rising = tt; timely = tt; kept = tt }, tt);

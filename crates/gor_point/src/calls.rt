@@ -2,7 +2,7 @@
 ghost use Rattle.std.specs.Prelude.{◌≡◌, ◌<◌, ◌≤◌, IfOk, IfErr, OnErr, Err, ⊤};
 ghost use Rattle.gor_model.specs.declared.event.Call.TheVariants as call;
 ghost use Rattle.gor_model.specs.Names.{key_of};
-ghost use Rattle.gor_model.specs.Windows.{greatest_time, slots_of_a_shard};
+ghost use Rattle.gor_model.specs.Windows.{greatest_time};
 ghost use Rattle.gor_hall.specs.Halls.{start_of};
 ghost use Rattle.gor_hall.specs.Passes.{lane_of};
 ghost use Rattle.gor_steps.specs.declared.gets.GetFault.TheVariants.{Range};
@@ -87,7 +87,6 @@ pub fn del<D: Disk, R: Wait>(
     name: &Name,
 ) -> Result<DelReply, DelFault>
     requires pass { IsReady shard.now pass.old }
-    requires slots { (start_of shard.now).slots ≤ slots_of_a_shard }
     ensures pass { IsBack shard.now pass.old pass.new }
     ensures event { IfOk result (λ r. Makes pass.old r.number (call.Del (key_of name.now)) (del_reply r.answer) pass.new) }
     ensures none { OnErr result (MakesNone pass.old pass.new) }
@@ -112,7 +111,6 @@ pub fn put<D: Disk, R: Wait>(
     word: u64,
 ) -> Result<PutReply, PutFault>
     requires pass { IsReady shard.now pass.old }
-    requires slots { (start_of shard.now).slots ≤ slots_of_a_shard }
     ensures pass { IsBack shard.now pass.old pass.new }
     ensures event { IfOk result (λ r. (time ≤ greatest_time) × Makes pass.old r.number (call.Put name.now (key_of name.now) time word) (put_reply r.answer) pass.new) }
     ensures refused { IfErr result (PutRefused pass.old time pass.new) }

@@ -187,7 +187,8 @@ module _ (seen : Contents) (shards shard slots : ℕ) where
 pub fresh_recovered : (shards shard slots : ℕ) (r : Recovered) → IsFresh r → IsRecovered shards shard slots r
 unfolding recovered_start
 fresh_recovered shards shard slots r is = record {
-  start = record {
+  start = λ low. record {
+    slots = low;
     floor = inl is.floor;
     next = (let e = is.next in omega arith, let e = is.next in omega arith);
     rows = rw is.rows tt;

@@ -315,7 +315,7 @@ module _ (files : Files) (upto : ℕ) (store : GatheredFiles) (is : AreGatheredO
         map = recovered files named.names;
         is = ap (λ x. and_then x (with_limits slots)) map_is ∙ in_limits;
         start_is = start_same;
-        start = subst IsStart (sym start_same) (is_start files named.names slots recover_to fits (files_low files upto store is) (enough enough_slots) (let e = next_are in omega arith));
+        start = λ low. subst IsStart (sym start_same) (is_start files named.names slots recover_to fits (files_low files upto store is) (enough enough_slots) (let e = next_are in omega arith) low);
         fresh = fresh;
         marks_are = marks_same;
         tops_are = tops_same;

@@ -1,7 +1,7 @@
 -- What is gathered of the files that the marks name, and what is restored from it.
 use Rattle.std.specs.Prelude.{◌≡◌, ℕ, ◌<◌, ◌≤◌, ◌^◌, List, map, Ok, Bool, false, IsTrue}
 use Rattle.std.specs.List.{AllByRecursion}
-use Rattle.gor_model.specs.Starts.{IsFloor, IsStart}
+use Rattle.gor_model.specs.Starts.{IsFloor}
 use Rattle.gor_disk.specs.Disk.{Contents}
 use Rattle.gor_marks.specs.declared.mark.Mark.{Mark}
 use Rattle.gor_recover.specs.declared.base.Based.{Based}
@@ -22,7 +22,7 @@ use Rattle.gor_recover.specs.RowReads.{AreRows}
 use Rattle.gor_recover.specs.BatchReads.{AreParts}
 use Rattle.gor_recover.specs.LogReads.{LogsAre, top_among}
 use Rattle.gor_recover.specs.StoreReads.{IsBasedOn}
-use Rattle.gor_recover.specs.Recovered.{recovered_start}
+use Rattle.gor_recover.specs.Recovered.{StartsWith, recovered_start}
 
 -- what was gathered is of these files, which are in their limits
 pub record AreGatheredOf (files : Files) (upto : ℕ) (store : GatheredFiles) : Type 0 where
@@ -60,7 +60,7 @@ pub record Restores (files : Files) (list slots : ℕ) (logs : Logs) (marks : Li
   pub map : ShardMap
   pub is : and_then (map_of_files list files) (with_limits slots) ≡ Ok map
   pub start_is : recovered_start slots r ≡ start_of slots map
-  pub start : IsStart (recovered_start slots r)
+  pub start : StartsWith slots r
   pub fresh : r.fresh ≡ false
   pub marks_are : r.marks.items ≡ marks
   pub tops_are : r.tops.items ≡ logs.tops.items

@@ -1,7 +1,8 @@
 -- What an opening recovers, as a start of the shard's history, and the marks and logs that it begins from.
-use Rattle.std.specs.Prelude.{◌≡◌, ℕ, List, map, false}
+use Rattle.std.specs.Prelude.{◌≡◌, ℕ, ◌≤◌, List, map, false}
 use Rattle.gor_model.specs.Names.{key_of}
 use Rattle.gor_model.specs.Starts.{IsStart}
+use Rattle.gor_model.specs.Windows.{slots_of_a_shard}
 use Rattle.gor_model.specs.declared.start.Row.{Row}
 use Rattle.gor_model.specs.declared.start.Start.{Start}
 use Rattle.gor_marks.specs.declared.mark.Mark.{Mark}
@@ -27,9 +28,13 @@ keyed_row r = (key_of r.name, row_of r)
 unfoldable pub recovered_start : ℕ → Recovered → Start
 recovered_start slots r = record { slots = slots; floor = r.floor; next = r.next; rows = map keyed_row r.rows.items; shards = 0; shard = 0; since = 0; faults = 0; fit = false }
 
+-- where a shard may have so many slots, what was recovered is a start
+abbrev pub StartsWith : ℕ → Recovered → Type 0
+StartsWith slots r = slots ≤ slots_of_a_shard → IsStart (recovered_start slots r)
+
 -- what an opening gives with so many slots, whatever the disk tells
 pub record IsRecovered (shards shard slots : ℕ) (r : Recovered) : Type 0 where
-  pub start : IsStart (recovered_start slots r)
+  pub start : StartsWith slots r
   pub marks : AreMarksOrNone shards shard r.marks.items
   pub fresh : r.fresh ≡ is_fresh r.marks.items
   pub tops : AreTops r.marks.items r.tops.items

@@ -1,6 +1,5 @@
 -- What an opening gives of a disk that tells its contents.
 use Rattle.std.specs.Prelude.{◌≡◌, ℕ, List, [], ◌∷◌, map, Result, Ok, Bool, true, false, IsTrue}
-use Rattle.gor_model.specs.Starts.{IsStart}
 use Rattle.gor_disk.specs.Disk.{Contents}
 use Rattle.gor_marks.specs.declared.mark.Mark.{Mark}
 use Rattle.gor_image.specs.declared.fault.ImageFault.{ImageFault}
@@ -13,7 +12,7 @@ use Rattle.gor_image.specs.Holding.{start_of}
 use Rattle.gor_image.specs.Images.{current, read_files, read_logs, remaining_logs, map_of_files, with_limits, opens_to, marks_of}
 use Rattle.gor_recover.specs.LogReads.{top_among}
 use Rattle.gor_image.specs.MarkLists.{AreMarksOrNone, AreBehind}
-use Rattle.gor_recover.specs.Recovered.{AreTops, recovered_start}
+use Rattle.gor_recover.specs.Recovered.{AreTops, StartsWith, recovered_start}
 
 -- these are marks of some home
 pub record AreHomed (marks : List Mark) : Type 0 where
@@ -44,7 +43,7 @@ pub record IsOpened (read : Result ShardMap ImageFault) (slots : ℕ) (r : Recov
 
 -- a store was opened by its marks
 pub record OpensStore (tells : Bool) (seen : Contents) (marks : List Mark) (slots : ℕ) (r : Recovered) : Type 0 where
-  pub start : IsStart (recovered_start slots r)
+  pub start : StartsWith slots r
   pub fresh : r.fresh ≡ false
   pub marks_are : r.marks.items ≡ marks
   pub tops : AreTops marks r.tops.items

@@ -103,7 +103,7 @@ pub fn recover<D: Disk>(
     ensures ok { IsTrue D.tells → IfOk result (Opens ((D.view disk.old).seen) shards shard slots) }
     // A fault of the image is the one that opening it meets.
     ensures err { IsTrue D.tells → IfErr result (IsMet (opens_to ((D.view disk.old).seen) shards shard slots)) }
-    // On every disk it is a start, with marks and logs to go on from.
+    // On every disk it is a start, where a shard may have these slots, with marks and logs to go on from.
     ensures start { IfOk result (IsRecovered shards shard slots) }
     ensures same { IsTrue D.tells → OnlyRead (D.view disk.old) (D.view disk.new) }
     ensures cause { CountsOpenFault result (D.faults disk.old) (D.faults disk.new) }

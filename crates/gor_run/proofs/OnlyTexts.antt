@@ -39,7 +39,7 @@ only_text start phases text h is told goes lane other only t stops =
 
 module _ {D : Type 0} (tells : Bool) (view : D → DiskView) (faults : D → ℕ) where
   starts : (slots : ℕ) (seen : DiskView) (count : ℕ) (start : Start) → BeginsFrom 1 0 slots tells seen count start → IsStart start
-  starts slots seen count start begins = subst IsStart (sym begins.same) (is_start slots begins.recovered _ _ _ _ _ begins.sound.start)
+  starts slots seen count start begins = subst IsStart (sym begins.same) (is_start slots begins.recovered _ _ _ _ _ (begins.sound.start begins.few))
 
   still : (h : History) (old new : D) → (is_stopped h ≡ true → disk.Rose (faults old) (faults new)) → (disk.Rose (faults old) (faults new) → ⊥) → is_stopped h ≡ false
   still h old new rose quiet = by (is_stopped h) refl where

@@ -49,6 +49,7 @@ keys_differ same = let ends = letters_differ 98 97 [] [] (sym key_b ∙ same ∙
 pub two_rows_start : (r : Recovered) (a b : RecoveredRow) → r.floor ≡ 93600 → r.next ≡ 9 → r.rows.items ≡ a ∷ b ∷ [] → row_of a ≡ row_a → row_of b ≡ row_b → IsStart (recovered_start 3 r)
 unfolding recovered_start
 two_rows_start r a b floor next rows a_is b_is = record {
+  slots = omega arith;
   floor = inr (12, omega arith, floor);
   next = (omega (arith, next), omega (arith, next));
   rows = subst (λ (l : List (List ℕ × Row)). AllByRecursion (λ q. IsRow 3 q.0 q.1) l) (sym keyed) (a_is_row, (b_is_row, tt));
@@ -60,6 +61,7 @@ two_rows_start r a b floor next rows a_is b_is = record {
 pub no_rows_start : (r : Recovered) → r.floor ≡ 0 → r.next ≡ 1 → r.rows.items ≡ [] → IsStart (recovered_start 2 r)
 unfolding recovered_start
 no_rows_start r floor next rows = record {
+  slots = omega arith;
   floor = inl floor;
   next = (omega (arith, next), omega (arith, next));
   rows = rw rows tt;

@@ -217,7 +217,7 @@ fn begin<V: Parts<K>, K>(
 ) -> Result<PutReply, PutFault>
     requires pass { IsPassOf shard.now pass.old × (0 < left_of_pass pass.old) }
     requires sound { IsSound (view pass.old) }
-    requires slot { (slot < (start_of shard.now).slots) × ((start_of shard.now).slots ≤ slots_of_a_shard) }
+    requires slot { slot < (start_of shard.now).slots }
     requires stands { HasAll (view pass.old) slot all }
     requires absent { slot_of all.directory (key_of point.now.name.now) ≡ None }
     requires free { slice_get (shown all.directory).free 0 ≡ Some slot }
@@ -260,7 +260,6 @@ pub(crate) fn put_absent<V: Parts<K>, K, R: Wait>(
     point: &NewPoint,
 ) -> Result<PutReply, PutFault>
     requires pass { IsPassOf shard.now pass.old × (held pass.old ≡ 1 ∷ []) × (0 < left_of_pass pass.old) }
-    requires slots { (start_of shard.now).slots ≤ slots_of_a_shard }
     requires sound { IsSound (view pass.old) }
     requires index { HasDirectory (view pass.old) directory }
     requires absent { slot_of directory (key_of point.now.name.now) ≡ None }

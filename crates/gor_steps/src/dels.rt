@@ -165,7 +165,7 @@ fn end<V: Parts<K>, K>(
 ) -> DelReply
     requires pass { IsPassOf shard.now pass.old × (0 < left_of_pass pass.old) }
     requires sound { IsSound (view pass.old) }
-    requires slot { (slot < (start_of shard.now).slots) × ((start_of shard.now).slots ≤ slots_of_a_shard) }
+    requires slot { slot < (start_of shard.now).slots }
     requires stands { HasAll (view pass.old) slot all }
     requires there { slot_of all.directory (key_of name.now) ≡ Some slot }
     requires running { all.journal.pending.stopped ≡ false }
@@ -196,7 +196,7 @@ fn del_there<V: Parts<K>, K>(
 ) -> Result<DelReply, DelFault>
     requires pass { IsPassOf shard.now pass.old × (0 < left_of_pass pass.old) }
     requires sound { IsSound (view pass.old) }
-    requires slot { (slot < (start_of shard.now).slots) × ((start_of shard.now).slots ≤ slots_of_a_shard) }
+    requires slot { slot < (start_of shard.now).slots }
     requires stands { HasAll (view pass.old) slot all }
     requires there { slot_of all.directory (key_of name.now) ≡ Some slot }
     ensures pass { IsBack shard.now pass.old pass.new }
@@ -227,7 +227,6 @@ pub fn del<V: Parts<K>, K, R: Wait>(
     name: &Name,
 ) -> Result<DelReply, DelFault>
     requires pass { IsReady shard.now pass.old }
-    requires slots { (start_of shard.now).slots ≤ slots_of_a_shard }
     ensures pass { IsBack shard.now pass.old pass.new }
     ensures event { IfOk result (λ r. Makes pass.old r.number (call.Del (key_of name.now)) (del_reply r.answer) pass.new) }
     ensures none { OnErr result (MakesNone pass.old pass.new) }

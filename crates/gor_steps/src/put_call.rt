@@ -4,7 +4,7 @@ ghost use Rattle.gor_model.specs.declared.event.Call.TheVariants as call;
 ghost use Rattle.gor_model.specs.declared.start.Move.TheVariants.{Took, Gave};
 ghost use Rattle.gor_model.specs.Answers.{MayPut};
 ghost use Rattle.gor_model.specs.Names.{key_of};
-ghost use Rattle.gor_model.specs.Windows.{greatest_time, slots_of_a_shard};
+ghost use Rattle.gor_model.specs.Windows.{greatest_time};
 ghost use Rattle.gor_hall.specs.Halls.{IsPassOf, start_of};
 ghost use Rattle.gor_hall.specs.Passes.{view, held, left_of_pass, moves};
 ghost use Rattle.gor_steps.specs.declared.puts.PutFault.TheVariants.{Time};
@@ -64,7 +64,6 @@ pub fn put_again<V: Parts<K>, K, R: Wait>(
     point: &NewPoint,
 ) -> Result<PutReply, PutFault>
     requires pass { IsPassOf shard.now pass.old × (held pass.old ≡ []) × (0 < left_of_pass pass.old) }
-    requires slots { (start_of shard.now).slots ≤ slots_of_a_shard }
     requires point { MayPut point.now.name.now (key_of point.now.name.now) point.now.time }
     ensures pass { IsBack shard.now pass.old pass.new }
     ensures event { IfOk result (λ r. PutMakes pass.old point.now pass.new r.number r.answer) }
@@ -86,7 +85,6 @@ fn put_point<V: Parts<K>, K, R: Wait>(
     point: &NewPoint,
 ) -> Result<PutReply, PutFault>
     requires pass { IsPassOf shard.now pass.old × (held pass.old ≡ []) × (0 < left_of_pass pass.old) }
-    requires slots { (start_of shard.now).slots ≤ slots_of_a_shard }
     requires point { MayPut point.now.name.now (key_of point.now.name.now) point.now.time }
     ensures pass { IsBack shard.now pass.old pass.new }
     ensures event { IfOk result (λ r. PutMakes pass.old point.now pass.new r.number r.answer) }
@@ -132,7 +130,6 @@ pub fn put<V: Parts<K>, K, R: Wait>(
     word: u64,
 ) -> Result<PutReply, PutFault>
     requires pass { IsReady shard.now pass.old }
-    requires slots { (start_of shard.now).slots ≤ slots_of_a_shard }
     ensures pass { IsBack shard.now pass.old pass.new }
     ensures event { IfOk result (λ r. (time ≤ greatest_time) × Makes pass.old r.number (call.Put name.now (key_of name.now) time word) (put_reply r.answer) pass.new) }
     ensures refused { IfErr result (PutRefused pass.old time pass.new) }

@@ -156,7 +156,7 @@ module _ (slots : ℕ) (r : Recovered) where
   module _ (of which since faults : ℕ) (fit : Bool) where
     pub is_start : IsStart (recovered_start slots r) → IsStart (opened_start slots r of which since faults fit)
     unfolding recovered_start opened_start
-    is_start is = record { floor = is.floor; next = is.next; rows = is.rows; apart = is.apart }
+    is_start is = record { slots = is.slots; floor = is.floor; next = is.next; rows = is.rows; apart = is.apart }
 
     directory_same : directory_share (recovered_start slots r) [] ≡ directory_share (opened_start slots r of which since faults fit) []
     unfolding recovered_start opened_start unused_slots

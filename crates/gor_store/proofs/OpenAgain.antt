@@ -19,7 +19,7 @@ unfolding opened_start
 slots_are shards shard slots tells seen faults start begins = ap (λ (s : Start). s.slots) begins.same
 
 starts : (shards shard slots : ℕ) (tells : Bool) (seen : DiskView) (faults : ℕ) (start : Start) → BeginsFrom shards shard slots tells seen faults start → IsStart start
-starts shards shard slots tells seen faults start begins = subst IsStart (sym begins.same) (is_start slots begins.recovered _ _ _ _ _ begins.sound.start)
+starts shards shard slots tells seen faults start begins = subst IsStart (sym begins.same) (is_start slots begins.recovered _ _ _ _ _ (begins.sound.start begins.few))
 
 pub images_open_again : {D : Type 0} (tells : Bool) (view : D → DiskView) (faults : D → ℕ) → ImagesOpenAgain tells view faults
 images_open_again tells view faults shards shard slots old new start h session told fit k image since now left = again where

@@ -1,8 +1,9 @@
 -- A shard as it opens, and as it closes.
-use Rattle.std.specs.Prelude.{◌≡◌, ℕ, ◌<◌, List, [], Bool, IsTrue, Some, slice_get, length}
+use Rattle.std.specs.Prelude.{◌≡◌, ℕ, ◌<◌, ◌≤◌, List, [], Bool, IsTrue, Some, slice_get, length}
 use Rattle.gor_disk.specs.Disk.{DiskView}
 use Rattle.gor_model.specs.Changes.{History}
 use Rattle.gor_model.specs.Objects.{share_of}
+use Rattle.gor_model.specs.Windows.{slots_of_a_shard}
 use Rattle.gor_model.specs.declared.start.Start.{Start}
 use Rattle.gor_flush.specs.declared.device.Device.{Device}
 use Rattle.gor_flush.specs.declared.part.Part.{Part}
@@ -19,9 +20,11 @@ use Rattle.gor_flush.specs.FitTest.{is_fit}
 use Rattle.gor_recover.specs.Recovered.{IsRecovered}
 use Rattle.gor_recover.specs.declared.recovered.Recovered.{Recovered}
 
--- The history begins from what the files of a shard recover to, which is what they hold where the disk tells them, at the
--- moment at which the disk was handed in, when it had failed so often; and its start says whether these files were fit.
+-- The history begins from what the files of a shard recover to, with slots within the limit. That is what they hold where the
+-- disk tells them, at the moment at which the disk was handed in, when it had failed so often; and its start says whether these
+-- files were fit.
 pub record BeginsFrom (shards shard slots : ℕ) (tells : Bool) (disk : DiskView) (faults : ℕ) (start : Start) : Type 0 where
+  pub few : slots ≤ slots_of_a_shard
   pub recovered : Recovered
   pub sound : IsRecovered shards shard slots recovered
   pub same : start ≡ opened_start slots recovered shards shard disk.moment faults (is_fit shards shard disk.seen)

@@ -1,7 +1,6 @@
 -- A store as its owner sees it between two calls, and what each call does to it.
 use Rattle.std.specs.Prelude.{◌≡◌, ℕ, ◌+◌, ◌^◌, ◌≤◌, List, [], ◌∷◌, ◌++◌, sum_by, length, Option, Some, None, Bool, IsTrue, slice_get, vec_capacity}
 use Rattle.gor_disk.specs.Disk.{DiskView}
-use Rattle.gor_model.specs.Windows.{slots_of_a_shard}
 use Rattle.gor_hall.specs.declared.hall.Hall.{Hall}
 use Rattle.gor_hall.specs.declared.pass.Pass.{Pass}
 use Rattle.gor_hall.specs.Halls.{start_of, lanes_of}
@@ -82,7 +81,6 @@ module _ {D : Type 0} where
   pub record IsAtRest (store : Store D) : Type 0 where
     pub eight : length store.lanes.items ≡ 8
     pub all : lanes_of store.hall ≡ 9
-    pub slots : (start_of store.hall).slots ≤ slots_of_a_shard
     pub each : AreSeated store.hall (passes_of store)
     pub empty : store.room.items ≡ []
     pub room : 9 ≤ vec_capacity store.room

@@ -1,7 +1,5 @@
 //! One lane of a phase: it waits until all events before the phase are seen, and then answers its lines in order.
 ghost use Rattle.std.specs.Prelude.{◌≡◌, ◌+◌, ◌*◌, ◌≤◌, [], length, OnOk, OnErr};
-ghost use Rattle.gor_model.specs.Windows.{slots_of_a_shard};
-ghost use Rattle.gor_hall.specs.Halls.{start_of};
 ghost use Rattle.gor_hall.specs.Passes.{seen, left_of_pass};
 ghost use Rattle.gor_store.specs.Lines.{IsResting, RestsAgain, HasRun};
 ghost use Rattle.gor_store.specs.LineParts.{RanUntil};
@@ -45,7 +43,6 @@ fn serve_all<D: Disk, P: Pause, R: Wait>(
 ) -> Result<(), AllocError>
     requires taken { AreTaken lines.now }
     requires rests { IsResting shard.now pass.old }
-    requires slots { (start_of shard.now).slots ≤ slots_of_a_shard }
     requires left { needs lines.now ≤ left_of_pass pass.old }
     ensures rests { RestsAgain shard.now (3 * length lines.now) pass.old pass.new }
     ensures served { OnOk result (ServesAll lines.now pass.old pass.new answers.old.items answers.new.items) }
@@ -76,7 +73,6 @@ pub fn run_lane<D: Disk, P: Pause, R: Wait>(
 ) -> Result<(), AllocError>
     requires taken { AreTaken lines.now }
     requires rests { IsResting shard.now pass.old }
-    requires slots { (start_of shard.now).slots ≤ slots_of_a_shard }
     requires left { needs lines.now ≤ left_of_pass pass.old }
     requires empty { answers.old.items ≡ [] }
     ensures rests { RestsAgain shard.now (3 * length lines.now) pass.old pass.new }

@@ -1,8 +1,6 @@
 //! The lines of one lane on one shard: each is answered, and what it brought about is told.
 ghost use Rattle.std.specs.Prelude.{◌≡◌, ◌+◌, ◌≤◌, [], ◌∷◌, ◌++◌, true, false, IfOk, OnOk, OnErr, MatchOption, IsTrue};
 ghost use Rattle.gor_model.specs.Names.{IsName};
-ghost use Rattle.gor_model.specs.Windows.{slots_of_a_shard};
-ghost use Rattle.gor_hall.specs.Halls.{start_of};
 ghost use Rattle.gor_hall.specs.Passes.{left_of_pass, lane_of};
 ghost use Rattle.gor_finish.specs.Flushes.{IsFlush};
 ghost use Rattle.gor_steps.specs.Dels.{del_reply};
@@ -134,7 +132,6 @@ fn answer_del<D: Disk, R: Wait>(
     name: &[u8],
 ) -> Result<What, AllocError>
     requires rests { IsResting shard.now pass.old }
-    requires slots { (start_of shard.now).slots ≤ slots_of_a_shard }
     requires left { 16388 ≤ left_of_pass pass.old }
     ensures rests { RestsAgain shard.now 1 pass.old pass.new }
     ensures told { IfOk result (IsTold (line_.Del name.now) pass.old pass.new) }
@@ -160,7 +157,6 @@ fn answer_put<D: Disk, R: Wait>(
     word: u64,
 ) -> Result<PutTold, AllocError>
     requires rests { IsResting shard.now pass.old }
-    requires slots { (start_of shard.now).slots ≤ slots_of_a_shard }
     requires left { 16388 ≤ left_of_pass pass.old }
     ensures rests { RestsAgain shard.now 1 pass.old pass.new }
     ensures told { IfOk result (IsPutTold name.now time word pass.old pass.new) }
@@ -263,7 +259,6 @@ fn serve_put<D: Disk, R: Wait>(
     answers: &mut Vec<LaneAnswer>,
 ) -> Result<(), AllocError>
     requires rests { IsResting shard.now pass.old }
-    requires slots { (start_of shard.now).slots ≤ slots_of_a_shard }
     requires left { 32776 ≤ left_of_pass pass.old }
     ensures rests { RestsAgain shard.now 3 pass.old pass.new }
     ensures served { OnOk result (ServesLine (line_.Put name.now time word) pass.old pass.new answers.old.items answers.new.items) }
@@ -333,7 +328,6 @@ fn serve_del<D: Disk, R: Wait>(
     answers: &mut Vec<LaneAnswer>,
 ) -> Result<(), AllocError>
     requires rests { IsResting shard.now pass.old }
-    requires slots { (start_of shard.now).slots ≤ slots_of_a_shard }
     requires left { 16388 ≤ left_of_pass pass.old }
     ensures rests { RestsAgain shard.now 3 pass.old pass.new }
     ensures served { OnOk result (ServesLine (line_.Del name.now) pass.old pass.new answers.old.items answers.new.items) }
@@ -360,7 +354,6 @@ pub(crate) fn serve_line<D: Disk, P: Pause, R: Wait>(
 ) -> Result<(), AllocError>
     requires taken { is_taken line.now ≡ true }
     requires rests { IsResting shard.now pass.old }
-    requires slots { (start_of shard.now).slots ≤ slots_of_a_shard }
     requires left { need line.now ≤ left_of_pass pass.old }
     ensures rests { RestsAgain shard.now 3 pass.old pass.new }
     ensures served { OnOk result (ServesLine line.now pass.old pass.new answers.old.items answers.new.items) }

@@ -1,7 +1,5 @@
 //! A phase: its lanes beside each other, each in a thread of its own where two have lines and one can be made.
-ghost use Rattle.std.specs.Prelude.{◌≡◌, ℕ, ◌<◌, ◌≤◌, length, map, slice_index_or, IfOk, OnErr};
-ghost use Rattle.gor_model.specs.Windows.{slots_of_a_shard};
-ghost use Rattle.gor_hall.specs.Halls.{start_of};
+ghost use Rattle.std.specs.Prelude.{◌≡◌, ℕ, ◌<◌, length, map, slice_index_or, IfOk, OnErr};
 ghost use Rattle.gor_text.specs.Workloads.{phase_lines};
 ghost use Rattle.gor_store.specs.declared.phases.Lane.{Lane};
 ghost use Rattle.gor_store.specs.Phases.{IsReady, AreReady, HaveRested, HasWorked, HaveTold, RanPhase, RanInPart, lines_at, passes_of};
@@ -29,9 +27,7 @@ pub struct Lane {
 }
 
 impl Lane {
-    ghost use Rattle.std.specs.Prelude.{◌≡◌, ◌≤◌, ◌++◌, true, OnOk};
-    ghost use Rattle.gor_model.specs.Windows.{slots_of_a_shard};
-    ghost use Rattle.gor_hall.specs.Halls.{start_of};
+    ghost use Rattle.std.specs.Prelude.{◌≡◌, ◌++◌, true, OnOk};
     ghost use Rattle.gor_store.specs.Phases.{IsReady, HasWorked};
 
     /// The lane of a pass, which has told nothing. It takes no memory.
@@ -56,7 +52,6 @@ impl Lane {
         pause: &P,
     )
         requires ready { IsReady shard.now lines.now self.old.pass }
-        requires slots { (start_of shard.now).slots ≤ slots_of_a_shard }
         ensures { HasWorked shard.now lines.now before self.old self.new }
     {
         self.answers.clear();
@@ -99,7 +94,6 @@ fn run_at<D: Disk, P: Pause, R: Wait>(
 )
     requires place { place < length phase.now }
     requires ready { IsReady shard.now (lines_at (map (λ lines. lines.items) phase.now) place) lane.old.pass }
-    requires slots { (start_of shard.now).slots ≤ slots_of_a_shard }
     ensures { HasWorked shard.now (lines_at (map (λ lines. lines.items) phase.now) place) before lane.old lane.new }
 {
     lane.run(rt, alloc, shard, &phase[place], before, pause);
@@ -144,7 +138,6 @@ fn run_lanes<D: Disk + Send, S: HasShard<D> + Sync, P: Pause + Sync, R: Threads 
     before: u64,
     pause: &P,
 )
-    requires slots { (start_of (S.shard_of shared.now)).slots ≤ slots_of_a_shard }
     requires ready { (i : ℕ) (d : Lane) → i < length lanes.old → (i < length phase.now) × IsReady (S.shard_of shared.now) (lines_at (map (λ lines. lines.items) phase.now) i) (slice_index_or lanes.old i d).pass }
     ensures worked { (i : ℕ) (d : Lane) → i < length lanes.old → HasWorked (S.shard_of shared.now) (lines_at (map (λ lines. lines.items) phase.now) i) before (slice_index_or lanes.old i d) (slice_index_or lanes.new i d) }
     ensures length { length lanes.new ≡ length lanes.old }
@@ -154,7 +147,7 @@ fn run_lanes<D: Disk + Send, S: HasShard<D> + Sync, P: Pause + Sync, R: Threads 
         lanes,
         threads_for(phase),
         &|place, lane| -> ()
-            requires { (place < length phase.now) × IsReady (S.shard_of shared.now) (lines_at (map (λ lines. lines.items) phase.now) place) lane.old.pass × ((start_of (S.shard_of shared.now)).slots ≤ slots_of_a_shard) }
+            requires { (place < length phase.now) × IsReady (S.shard_of shared.now) (lines_at (map (λ lines. lines.items) phase.now) place) lane.old.pass }
             ensures { HasWorked (S.shard_of shared.entry.now) (lines_at (map (λ lines. lines.items) phase.entry.now) place) before lane.old lane.new }
         { run_at(rt, alloc, shared.shard(), lane, phase, place, before, pause) },
     );
@@ -187,7 +180,6 @@ pub(crate) fn run_phase<D: Disk + Send, P: Pause + Sync, R: Threads + Wait + Syn
     before: u64,
     pause: &P,
 ) -> Result<Vec<LaneAnswer>, AllocError>
-    requires slots { (start_of shard.now).slots ≤ slots_of_a_shard }
     requires eight { (length lanes.old ≡ 8) × (length (phase_lines phase.now) ≡ 8) }
     requires ready { AreReady shard.now (phase_lines phase.now) (passes_of lanes.old) }
     ensures rests { HaveRested shard.now (phase_lines phase.now) (passes_of lanes.old) (passes_of lanes.new) }

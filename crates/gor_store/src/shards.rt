@@ -49,7 +49,6 @@ fn open_hall<D: Disk>(
     lanes: u32,
 ) -> Result<OpenShard<D>, Device<D>>
     requires start { IsStart (recovered_start slots recovered) }
-    requires slots { slots ≤ slots_of_a_shard }
     requires device { StandsFor (shown D.tells D.view D.faults device) (start_with slots recovered (shown D.tells D.view D.faults device)) (device_share (start_with slots recovered (shown D.tells D.view D.faults device)) []) }
     requires lanes { (1 ≤ lanes) × (lanes ≤ 16) }
     ensures start { IfOk result (λ o. start_of o.hall ≡ start_with slots recovered (shown D.tells D.view D.faults device)) }

@@ -76,7 +76,6 @@ fn take_rooms(alloc: Global) -> Result<Rooms, AllocError>
 /// The store of a shard that was opened.
 fn store_of<D: Disk>(alloc: Global, opened: OpenShard<D>, rooms: Rooms, rest: Vec<D>) -> Store<D>
     requires first { AreFirst opened.hall 9 opened.passes.items }
-    requires slots { (start_of opened.hall).slots ≤ slots_of_a_shard }
     requires rooms { HasRooms rooms }
     requires others { length rest.items ≡ 15 }
     requires more { 16 ≤ vec_capacity rest }

@@ -15,12 +15,12 @@ returns-then-is_later c =
 
 pub returns-then-is_empty : goal.returns-then-is_empty
 returns-then-is_empty c = elim c.then-is_empty.branch [
-    then-is_empty-via-then-is_empty w ↦ by c.args.tops.now (let e = w.if-is_empty.ensures in grind arith)
+  | then-is_empty-via-then-is_empty w ↦ by c.args.tops.now (let e = w.if-is_empty.ensures in grind arith)
   | then-is_empty-via-else-is_empty+then-not-is_later w ↦
-        found_none c.args.window c.args.next c.args.top c.args.tops.now
-        (subst (λ (l : List LogTop). AllByRecursion (λ t. is_later c.args.window t.top ≡ false) l) (take_all c.loop-log.log-index c.args.tops.now (omega (arith, c.loop-log-test.false))) c.loop-log.invariant)
-        (sym (w.if-not-is_later.ensures))
-  ] where
+      found_none c.args.window c.args.next c.args.top c.args.tops.now
+      (subst (λ (l : List LogTop). AllByRecursion (λ t. is_later c.args.window t.top ≡ false) l) (take_all c.loop-log.log-index c.args.tops.now (omega (arith, c.loop-log-test.false))) c.loop-log.invariant)
+      (sym (w.if-not-is_later.ensures))
+] where
   by : (tops : List LogTop) → length tops ≤ 0 → c.args.next ≡ first_needed c.args.window c.args.next (raised c.args.top tops)
   by [] none = refl
   by (t ∷ more) none = absurd (omega arith)

@@ -34,7 +34,7 @@ begin_in-requires-clause-limits g c =
     let key = key_of c.args.point.now.name.now in
     let all = c.args.all in
     let s = c.requires.stands in
-    ((let a = c.requires.slot.0 in let b = c.requires.slot.1 in omega arith), floor_spelled v c.requires.sound all.directory s.directory)
+    ((let a = c.requires.slot in let b = c.requires.pass.0.sound.slots in omega arith), floor_spelled v c.requires.sound all.directory s.directory)
 
 pub mark-number-requires-clause-event : goal.mark-number-requires-clause-event
 mark-number-requires-clause-event g c =

@@ -18,7 +18,7 @@ pub del_there-requires-clause-slot : goal.del_there-requires-clause-slot
 del_there-requires-clause-slot g c =
     let one = c.take_directory-directory.ensures in
     let found : slot_of c.take_directory-directory.result (key_of c.args.name.now) ≡ Some c.in-Some.slot = sym c.slot_in.ensures.slot ∙ c.in-Some.is in
-    (subst (λ (z : Start). c.in-Some.slot < z.slots) one.pass.0.start (found_low (view c.take_directory-directory.new.pass) one.took.sound c.take_directory-directory.result one.stands (key_of c.args.name.now) c.in-Some.slot found), c.requires.slots)
+    subst (λ (z : Start). c.in-Some.slot < z.slots) one.pass.0.start (found_low (view c.take_directory-directory.new.pass) one.took.sound c.take_directory-directory.result one.stands (key_of c.args.name.now) c.in-Some.slot found)
 
 pub refuse-requires-clause-index : goal.refuse-requires-clause-index
 refuse-requires-clause-index g c =

@@ -1,4 +1,4 @@
-use Rattle.std.proofs.Common.{Some}
+use Rattle.std.proofs.Common.{Some, arith}
 use Rattle.gor_model.specs.Names.{key_of}
 use Rattle.gor_hall.specs.Passes.{view}
 use Rattle.gor_steps.specs.declared.dels.DelAnswer.TheVariants as answer
@@ -17,6 +17,9 @@ mark-number-requires-clause-event g c =
     let told = del_gone v c.requires.sound c.lane.result key all.directory all.journal s.directory s.journal c.requires.running c.args.slot c.requires.there in
     let m = del_may v c.requires.sound c.lane.result key all.directory all.journal s.directory s.journal (Some c.args.slot) answer.Gone c.requires.there told (held_all v c.args.slot all s) in
     (c.lane.ensures, c.requires.pass.1, m.0, m.1)
+
+pub end_in-all-requires-clause-slot : goal.end_in-all-requires-clause-slot
+end_in-all-requires-clause-slot g c = let low = c.requires.slot in let few = c.requires.pass.0.sound.slots in omega arith
 
 pub end_in-all-requires-clause-live : goal.end_in-all-requires-clause-live
 end_in-all-requires-clause-live g c =

@@ -1,4 +1,4 @@
-use Rattle.std.proofs.Common.{rules, ◌≡◌, List, [], length, sym, ap, subst, arith, ◌∙◌, slice_get}
+use Rattle.std.proofs.Common.{rules, ◌≡◌, List, [], length, sym, ap, subst, ◌∙◌, slice_get}
 use Rattle.gor_model.specs.Objects.{objects}
 use Rattle.gor_model.specs.Starts.{IsStart}
 use Rattle.gor_model.specs.declared.start.Start.{Start}
@@ -8,7 +8,7 @@ use Rattle.gor_flush.specs.Parts.{part_stands}
 use Rattle.gor_flush.specs.declared.part.Part.{Part}
 use Rattle.gor_flush.specs.FitTest.{is_fit}
 use Rattle.gor_store.proofs.InOrder.{is_start}
-use Rattle.gor_store.proofs.OpenShards.{slots_are, start_same}
+use Rattle.gor_store.proofs.OpenShards.{start_same}
 use Rattle.gor_store.proofs.shards.open_hall.Goals as goal
 
 pub open-requires-clause-start : goal.open-requires-clause-start
@@ -20,13 +20,9 @@ open-requires-clause-start g c =
 
 pub open-requires-clause-values : goal.open-requires-clause-values
 open-requires-clause-values g c =
-    let first = shown g.D.Disk.tells g.D.Disk.view g.D.Disk.faults c.args.device in
     let same = start_same g.D.Disk.tells g.D.Disk.view g.D.Disk.faults c.of-start.result.slots c.args.slots c.of-start.result.found.value c.args.recovered c.of-start.result.device.value c.args.device
     c.of-start.ensures.slots c.of-start.ensures.found c.of-start.ensures.device in
-    let count = slots_are c.args.slots c.args.recovered first.shards first.shard first.opened first.begun (is_fit first.shards first.shard first.given) in
-    let there = c.in_ok-values.ensures.len in
-    let few = c.requires.slots in
-    (there ∙ ap objects (sym same), omega (arith, there, count, few))
+    c.in_ok-values.ensures.len ∙ ap objects (sym same)
 
 pub open-requires-clause-stand : goal.open-requires-clause-stand
 open-requires-clause-stand g c =

@@ -5,8 +5,12 @@ use Rattle.gor_flush.specs.Opening.{HoldsOn}
 use Rattle.gor_store.proofs.OpenShards.{slots_are, opened_as}
 use Rattle.gor_store.proofs.shards.open_shard.Goals as goal
 
+pub open_hall-requires-clause-start : goal.open_hall-requires-clause-start
+open_hall-requires-clause-start g c = c.in-Ok.ensures.recovered.start c.requires.slots
+
 pub returns-in-Ok-open_hall-clause-start : goal.returns-in-Ok-open_hall-clause-start
 returns-in-Ok-open_hall-clause-start g c = record {
+  few = c.requires.slots;
   recovered = c.in-Ok.found.1;
   sound = c.in-Ok.ensures.recovered;
   same = c.in-Ok-open_hall.ensures.start ∙ opened_as c.args.slots c.in-Ok.found.1 _ _ _ _ _ _ _ _ _ _ c.in-Ok.ensures.begins.shards_are c.in-Ok.ensures.begins.shard_is c.in-Ok.ensures.begins.opened c.in-Ok.ensures.begins.begun c.in-Ok.ensures.begins.given;

@@ -7,7 +7,6 @@ pub returns-clause-rests : goal.returns-clause-rests
 returns-clause-rests g c = record {
   eight = eight_lanes c.into_lanes-closing.new.lanes.items c.into_lanes-closing.result c.args.opened.passes.items c.into_lanes-closing.ensures c.requires.first.count;
   all = c.requires.first.all;
-  slots = c.requires.slots;
   each = subst (AreSeated c.args.opened.hall) (sym c.into_lanes-closing.ensures) (first_seated c.args.opened.hall c.args.opened.passes.items c.requires.first);
   empty = c.requires.rooms.passes;
   room = c.requires.rooms.nine;

@@ -22,10 +22,10 @@ overflow_cast-keys g c =
 pub returns-clause-mark : goal.returns-clause-mark
 returns-clause-mark g c =
     let number : c.len-keys.result ≡ current c.args.self.now.list.items + 1 =
-        (let count = count_of c.args.self.now.shards c.args.self.now.shard c.args.self.now.list.items c.requires.marks in
-        let long = c.args.self.now.list.ok.0 in
-        let len = c.len-keys.ensures in
-        omega (arith, count, long, len)) in
+    (let count = count_of c.args.self.now.shards c.args.self.now.shard c.args.self.now.list.items c.requires.marks in
+    let long = c.args.self.now.list.ok.0 in
+    let len = c.len-keys.ensures in
+    omega (arith, count, long, len)) in
     ap (λ n. Sealed c.args.window n c.args.upto c.first_needed-first_log.result) number
     ∙ ap (λ f. Sealed c.args.window (current c.args.self.now.list.items + 1) c.args.upto f)
     (c.first_needed-first_log.ensures

@@ -25,7 +25,6 @@ pub returns-clause-rests : goal.returns-clause-rests
 returns-clause-rests g c = let r = c.requires.rests in record {
   eight = r.eight;
   all = r.all;
-  slots = r.slots;
   each = last_again c.args.self.now.hall (passes_of c.args.self.now.lanes.items) c.args.self.now.closing c.flush_behind.new.pass 2 c.flush_behind.ensures.rests r.each;
   empty = r.empty;
   room = r.room;

@@ -24,9 +24,6 @@ open_shard-requires-clause-pending g c t =
     first_is (λ (d : g.row.D.Denot). NothingPending (g.D.Disk.view d)) c.args.disks.items c.take_first-disk.result (let many = c.requires.sixteen in omega (arith, many))
     (λ disk others is. (c.take_first-disk.ensures.taken disk others is).0) (c.requires.pending t)
 
-pub store_of-requires-clause-slots : goal.store_of-requires-clause-slots
-store_of-requires-clause-slots g c = let same = c.in-Ok-open_shard.ensures.count in let few = c.requires.slots in omega (arith, same, few)
-
 pub returns-in-Ok-open_shard-clause-begins : goal.returns-in-Ok-open_shard-clause-begins
 returns-in-Ok-open_shard-clause-begins g c disk others is = let taken = c.take_first-disk.ensures.taken disk others is in (
   c.store_of.ensures.others ∙ taken.1,

@@ -27,7 +27,6 @@ returns-clause-rests g c =
     let a = lanes_after s.hall (phase_lines c.args.phase.now) s.lanes.len s.lanes.items c.deref_mut.result.now c.run_phase.new.lanes s.lanes.ok.0 c.deref_mut.ensures.value c.run_phase.ensures.rests in record {
       eight = ap length a.0 ∙ (a.2 ∙ r.eight);
       all = r.all;
-      slots = r.slots;
       each = subst (λ (ls : List Lane). AreSeated s.hall (passes_with ls s.closing)) (sym a.0)
           (seated_again s.hall (phase_lines c.args.phase.now) (passes_of s.lanes.items) (passes_of c.run_phase.new.lanes) s.closing a.1 r.each);
       empty = r.empty;
