@@ -57,13 +57,18 @@ def reason_of(fault):
     return (fault.strerror or str(fault)).lower()
 
 
+def bytes_of(text):
+    """The text in UTF-8. What came from words of the command line that are no UTF-8 is spelled with backslashes."""
+    return text.encode("utf-8", "backslashreplace")
+
+
 def write(path, text):
     """Writes a file whole, or standard output where no path is given."""
     if path is not None:
         write_all([(path, text)])
         return
     try:
-        sys.stdout.buffer.write(text.encode("utf-8"))
+        sys.stdout.buffer.write(bytes_of(text))
         sys.stdout.buffer.flush()
     except OSError as fault:
         # Else Python would try once more at its end, and complain.
@@ -95,7 +100,7 @@ def written_beside(path, text):
     beside = f"{target}.{os.getpid()}.part"
     try:
         with open(beside, "xb") as file:
-            file.write(text.encode("utf-8"))
+            file.write(bytes_of(text))
             file.flush()
             os.fsync(file.fileno())
     except OSError as fault:
