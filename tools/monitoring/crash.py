@@ -116,10 +116,10 @@ def judged(run, printed, found, after, by_itself):
 
 
 class Program:
-    """The program, as a command and the folder that it is run in."""
+    """The program, as a command and the folder that it is run in, and how many seconds its last run took."""
 
     def __init__(self, command, folder):
-        self.command, self.folder = shlex.split(command), folder
+        self.command, self.folder, self.seconds = shlex.split(command), folder, 0.0
 
     def start(self, words, given, told):
         """Starts it in a session of its own, so that a kill meets all that it started."""
@@ -152,11 +152,13 @@ class Program:
         with tempfile.TemporaryFile() as given, tempfile.TemporaryFile() as told:
             given.write(workload.encode())
             given.seek(0)
+            begun = time.monotonic()
             process = self.start(["run"], given, told)
             try:
                 printed, is_killed = watched(process, moment)
             finally:
                 kill(process)
+            self.seconds = time.monotonic() - begun
             told.seek(0)
             errors = told.read().decode(errors="replace").strip()
         if not is_killed and process.returncode:
@@ -243,7 +245,7 @@ def crash(words, folder):
         raise Wrong(words.program, fault) from None
     begun = time.monotonic()
     _, found = one_kill(program, chance, words.rounds, found, None)
-    pace = (time.monotonic() - begun) / words.rounds
+    pace = program.seconds / words.rounds
     print(f"A run of {words.rounds} rounds that was left alone: its dump has all its changes.\n")
     print(row(["kill", "round", "answered", "counted", "prefix", "lost", "points"]), flush=True)
     kills = []

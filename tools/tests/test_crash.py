@@ -99,7 +99,8 @@ class WithAFake(InFolder):
     def test_kills_are_told_and_repeated(self):
         status, told, errors = self.crash("--kills", "3", "--seed", "7")
         self.assertEqual((status, errors), (0, ""))
-        self.assertIn("3 kills and 0 runs", told)
+        alone = told.count("ended by itself")
+        self.assertIn(f"{3 - alone} kills and {alone} runs", told)
         self.assertIn("the machine did not lose power", told)
         rounds = [line.split()[1] for line in told.splitlines() if line[:10].strip().isdigit()]
         self.assertEqual(len(rounds), 3)

@@ -114,6 +114,11 @@ class ReadPrinted(unittest.TestCase):
         printed = Text("o", "0 0:1 points 1 1:0000000000000001\n1 0:0 points 1 2:0000000000000002\n0 0:2 absent\n")
         self.assertEqual([name for name, _ in read_series(printed, workload)], ["a", "b"])
 
+    def test_a_flush_line_is_not_taken_for_a_put_s(self):
+        printed = Text("o", "0 0:0 stored\n0 0:1 take 1\n0 0:2 done 1\n0 0:3 absent\n")
+        kinds = [line.kind for line, _ in paired(printed, Text("w", "0 put a 1 0000000000000001\n0 flush 0\n0 get b 0 1\n"))]
+        self.assertEqual(kinds, ["put", "flush", "get"])
+
     def test_a_flush_of_a_put_is_not_taken_for_a_line(self):
         due = Text("o", "0 0:0 stored\n0 0:1 take 1\n0 0:2 done 1\n0 0:3 take 0\n0 0:4 done 1\n0 0:5 absent\n")
         kinds = [line.kind for line, _ in paired(due, Text("w", "0 put a 1 0000000000000001\n0 flush 0\n0 get b 0 1\n"))]

@@ -137,9 +137,11 @@ class Lines(unittest.TestCase):
 
     def test_parts_are_runs_of_their_own(self):
         lines = ["0 del a\n", "join\n", "0 del b\n", "join\n", "0 del c\n"]
+        self.assertEqual(parts_of(lines, 10), ["0 del a\n", "0 del b\n", "0 del c\n"])
         self.assertEqual(parts_of(lines, 20), ["0 del a\n", "0 del b\n", "0 del c\n"])
         self.assertEqual(parts_of(lines, 29), ["0 del a\njoin\n0 del b\n", "0 del c\n"])
         self.assertEqual(parts_of(lines, 99), ["".join(lines)])
+        self.assertEqual(parts_of(["0 del a\n", *lines], 16), ["0 del a\n0 del a\n", "0 del b\n", "0 del c\n"])
         self.assertEqual(parts_of([], 99), [""])
 
 
@@ -167,6 +169,12 @@ class Command(InFolder):
         status, text, errors = tool("openmetrics", "from-dump", given="0 CPU floor 0 points 0\n")
         self.assertEqual((status, text), (1, ""))
         self.assertIn("CPU is no name that to-workload gives", errors)
+
+    def test_a_metric_s_samples_stand_together(self):
+        word = "3ff0000000000000"
+        dump = f'0 a floor 0 points 1 5:{word}\n0 a_b floor 0 points 1 5:{word}\n0 a{{x="^b"}} floor 0 points 2 5:{word} 6:fff0000000000000\n0 web01.cpu floor 0 points 1 7:{word}\n'
+        wanted = 'a 1.0 5\na{x="B"} 1.0 5\na{x="B"} -Inf 6\na_b 1.0 5\n{"web01.cpu"} 1.0 7\n# EOF\n'
+        self.assertEqual(tool("openmetrics", "from-dump", given=dump), (0, wanted, ""))
 
     def test_more_than_an_input_is_split(self):
         self.assertEqual(openmetrics.INPUT_BYTES, 16_777_216)
