@@ -8,3 +8,4 @@ pub mod Readings
 pub mod Padding
 pub mod ChainLaws
 pub mod BytesLaws
+pub mod Between

@@ -1,13 +1,14 @@
 //! A block: the points of one series in one window, in order, as bits.
-ghost use Rattle.std.specs.Prelude.{◌≡◌, ℕ, ◌+◌, ◌-◌, ◌<◌, ◌≤◌, ◌++◌, [], ◌∷◌, max, length, reverse, IsOk, IfOk, IfErr, OnOk, OnErr};
+ghost use Rattle.std.specs.Prelude.{◌≡◌, ℕ, ◌+◌, ◌-◌, ◌<◌, ◌≤◌, ◌++◌, [], ◌∷◌, max, length, reverse, filter, IsOk, IfOk, IfErr, OnOk, OnErr};
 ghost use Rattle.gor_model.specs.Windows.{last_window};
+ghost use Rattle.gor_model.specs.Answers.{in_range};
 ghost use Rattle.gor_block.specs.Decoded.{decoded, IsRead};
 ghost use Rattle.gor_block.specs.PointBlock.{PointBlock, IsBlock, IsSame, IsBytesOf, MayFollow, followed, last_time, point_room};
 ghost use Rattle.gor_block.specs.Faults.{IsBlockFault, Finds};
 
 use crate::bytes::{Header, bits_in, bytes_of, check_padding, header_in};
 use crate::fault::BlockFault;
-use crate::reading::{Ending, points_of, read_through};
+use crate::reading::{Ending, add_between, points_of, read_through};
 use crate::running::Running;
 use gor_bits::Bits;
 use gor_model::{Point, Points, Unit};
@@ -114,6 +115,22 @@ impl Block {
         ensures { IfOk result (λ points. points ≡ self.now.points) }
     {
         points_of(self.alloc, self.unit, self.window, self.count, &self.bits)
+    }
+
+    /// Adds the points of the times `from` to `to`, both included, behind those of a list. It decodes up to the first point
+    /// behind `to`, and no further. It answers `AllocError` where memory is wanting; some of the points may stand there then.
+    pub fn add_between(&self, from: u64, to: u64, found: &mut Points) -> Result<(), AllocError>
+        ensures { OnOk result (found.new ≡ found.old ++ filter (in_range from to) self.now.points) }
+    {
+        add_between(
+            self.unit,
+            self.window,
+            self.count,
+            &self.bits,
+            from,
+            to,
+            found,
+        )
     }
 
     /// A block of the same points, by one copy of the bytes. It answers `AllocError` where memory is wanting.

@@ -1,12 +1,13 @@
 //! The points of some bits, one after another.
-ghost use Rattle.std.specs.Prelude.{◌≡◌, ℕ, ◌+◌, ◌≤◌, reverse, IsOk, IfOk, IfErr};
+ghost use Rattle.std.specs.Prelude.{◌≡◌, ℕ, ◌+◌, ◌≤◌, ◌++◌, [], ◌∷◌, reverse, filter, IsOk, IfOk, IfErr, OnOk};
+ghost use Rattle.gor_model.specs.Answers.{in_range};
 ghost use Rattle.gor_block.specs.Decoded.{decoded, IsWhole, IsRead};
 ghost use Rattle.gor_block.specs.Faults.{IsNoCode};
 
 use crate::fault::BlockFault;
 use crate::running::Running;
 use gor_bits::Bits;
-use gor_model::{Points, Unit};
+use gor_model::{Point, Points, Unit};
 use std::alloc::{AllocError, Global};
 
 /// The place behind so many points, and what they leave for the next one.
@@ -39,6 +40,47 @@ pub fn points_of(
         running = step.after;
     }
     Ok(points)
+}
+
+/// Adds a point that is not behind `to` where it is not before `from` either.
+fn add_inside(point: Point, from: u64, to: u64, found: &mut Points) -> Result<(), AllocError>
+    requires { point.time ≤ to }
+    ensures { OnOk result (found.new ≡ found.old ++ filter (in_range from to) (point ∷ [])) }
+{
+    if from <= point.time {
+        found.push(point)?;
+    }
+    Ok(())
+}
+
+/// Adds the points of the times `from` to `to`, both included, that stand at the front of the bits. It reads up to the first
+/// point behind `to`, and no further.
+pub fn add_between(
+    unit: Unit,
+    window: u32,
+    count: u32,
+    bits: &Bits,
+    from: u64,
+    to: u64,
+    found: &mut Points,
+) -> Result<(), AllocError>
+    requires { IsWhole unit window count bits.now.bits }
+    ensures { OnOk result (found.new ≡ found.old ++ filter (in_range from to) (reverse (decoded unit window count bits.now.bits))) }
+{
+    let mut running = Running::new(unit, window);
+    let mut at = 0;
+    for _ in 0..count {
+        let Ok(step) = running.read(bits, at) else {
+            unreachable!();
+        };
+        if step.point.time > to {
+            return Ok(());
+        }
+        add_inside(step.point, from, to, found)?;
+        at = step.next;
+        running = step.after;
+    }
+    Ok(())
 }
 
 /// Reads so many points from the front of the bits. It takes no memory.

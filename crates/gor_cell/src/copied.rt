@@ -35,26 +35,28 @@ impl Copied {
     pub fn points(self) -> Result<Points, AllocError>
         ensures { IfOk result (λ points. points ≡ copied_points self) }
     {
-        let mut found = Points::new(*self.blocks.allocator());
+        let mut found = Points::with_room(*self.blocks.allocator(), self.room())?;
         for block in self.blocks.iter() {
             self.add_points(block, &mut found)?;
         }
         Ok(found)
     }
 
-    /// Adds the points of a block that are kept and in the range.
+    /// How many points the range has at most: no more than the blocks, and one for each of its times.
+    fn room(&self) -> usize {
+        let mut count = 0usize;
+        for block in self.blocks.iter() {
+            count = count.saturating_add(block.count as usize);
+        }
+        count.min(self.to.saturating_sub(self.from).saturating_add(1) as usize)
+    }
+
+    /// Adds the points of a block that are kept and in the range. It decodes no point behind the first that is past the range.
     fn add_points(&self, block: &Block, found: &mut Points) -> Result<(), AllocError>
         ensures { OnOk result (found.new ≡ found.old ++ filter (in_range self.now.from self.now.to) (kept self.now.floor block.now.points)) }
     {
-        let points = block.points()?;
-        for point in points.as_slice() {
-            if self.floor.saturating_sub(point.time) <= day()
-                && self.from <= point.time
-                && point.time <= self.to
-            {
-                found.push(*point)?;
-            }
-        }
+        let first = self.from.max(self.floor.saturating_sub(day()));
+        block.add_between(first, self.to, found)?;
         Ok(())
     }
 }
