@@ -81,7 +81,7 @@ batch_keeps_log P log own s t at body all is =
     let it : s ++ b.0 ∷ [] ≡ t = cc in
     subst (λ (l : List Batch). AllByRecursion (λ (x : Batch). P x.log) l) it (all_append (λ (x : Batch). P x.log) s b.0 all (subst P (sym (batch_of_log log at body b.0 b.1)) own))
 
-logs_keep : (P : ℕ → Type 0) (image : Contents) (logs : List ℕ) (s t : List Batch) → AllByRecursion P logs → AllByRecursion (λ (b : Batch). P b.log) s → read_logs image logs s ≡ Ok t → AllByRecursion (λ (b : Batch). P b.log) t
+pub logs_keep : (P : ℕ → Type 0) (image : Contents) (logs : List ℕ) (s t : List Batch) → AllByRecursion P logs → AllByRecursion (λ (b : Batch). P b.log) s → read_logs image logs s ≡ Ok t → AllByRecursion (λ (b : Batch). P b.log) t
 logs_keep P image [] s t own all is = let both : Ok s ≡ Ok t = is in let it : s ≡ t = cc in subst (λ (l : List Batch). AllByRecursion (λ (b : Batch). P b.log) l) it all
 logs_keep P image (log ∷ logs) s t own all is =
     let u = after_ok (read_gated image (read_batch log) (Log log) s) (λ more. read_logs image logs more) t is in

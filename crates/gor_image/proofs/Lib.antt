@@ -46,3 +46,5 @@ pub mod SealedPoints
 pub mod NewBlocks
 pub mod LiveNames
 pub mod NewIsThere
+pub mod TurnedLogs
+pub mod FinishTurned

@@ -50,7 +50,7 @@ module _ (marks : List Mark) (w k u f : ℕ) (may : MayFollow marks (Sealed w k 
       let upto : last_of (filter_map sealed_upto (marks ++ Sealed w k u f ∷ [])) ≡ Some u = ap last_of (filter_map-append sealed_upto marks (Sealed w k u f ∷ [])) ∙ last_push (filter_map sealed_upto marks) u in
       rw (window, upto) refl
 
-  current_push : current (marks ++ Sealed w k u f ∷ []) ≡ current marks + 1
+  pub current_push : current (marks ++ Sealed w k u f ∷ []) ≡ current marks + 1
   current_push = ap length (filter_map-append sealed_window marks (Sealed w k u f ∷ [])) ∙ length-append (filter_map sealed_window marks) (w ∷ [])
 
   first_push : first_log_of (marks ++ Sealed w k u f ∷ []) ≡ f
@@ -62,7 +62,7 @@ module _ (marks : List Mark) (w k u f : ℕ) (may : MayFollow marks (Sealed w k 
     pub first : first_log_of marks ≤ f
     pub last : f ≤ k
 
-  numbers : Numbers
+  pub numbers : Numbers
   numbers =
       let p = unless (not (is_above (base_of marks).window w)) _ _ (marks ++ Sealed w k u f ∷ []) may.rises in
       let q = unless (not (nat_eq k (current marks + 1))) _ _ (marks ++ Sealed w k u f ∷ []) p.1 in
@@ -89,9 +89,29 @@ range_split : (a i n : ℕ) → range_with_len a (i + n) ≡ range_with_len a i 
 range_split a zero n = ap (range_with_len a) (let e : 0 + n ≡ n = omega arith in e) ∙ ap (λ b. range_with_len b n) (let e : a ≡ a + 0 = omega arith in e)
 range_split a (suc i) n = ap (range_with_len a) (let e : suc i + n ≡ suc (i + n) = omega arith in e) ∙ ap (λ l. a ∷ l) (range_split (a + 1) i n ∙ ap (λ b. range_with_len (a + 1) i ++ range_with_len b n) (let e : a + 1 + i ≡ a + suc i = omega arith in e))
 
-all_in_range : (P : ℕ → Type 0) (a n : ℕ) → ((l : ℕ) → a ≤ l → l < a + n → P l) → AllByRecursion P (range_with_len a n)
+pub all_in_range : (P : ℕ → Type 0) (a n : ℕ) → ((l : ℕ) → a ≤ l → l < a + n → P l) → AllByRecursion P (range_with_len a n)
 all_in_range P a zero each = tt
 all_in_range P a (suc n) each = (each a (omega arith) (omega arith), all_in_range P (a + 1) n (λ l low high. each l (omega (arith, low)) (omega (arith, high))))
+
+-- ---- the logs before a mark, and with it
+
+module _ (marks : List Mark) (w k u f : ℕ) (may : MayFollow marks (Sealed w k u f)) where
+  pub logs_split : remaining_logs marks ≡ range_with_len (first_log_of marks) (f - first_log_of marks) ++ range_with_len f (current marks + 1 - f)
+  logs_split =
+      let first = (numbers marks w k u f may).first in let last = (numbers marks w k u f may).last in let number = (numbers marks w k u f may).list in
+      ap (range_with_len (first_log_of marks)) (let e : current marks + 1 - first_log_of marks ≡ (f - first_log_of marks) + (current marks + 1 - f) = omega (arith, first, last, number) in e)
+      ∙ range_split (first_log_of marks) (f - first_log_of marks) (current marks + 1 - f)
+      ∙ ap (λ b. range_with_len (first_log_of marks) (f - first_log_of marks) ++ range_with_len b (current marks + 1 - f))
+      (let e : first_log_of marks + (f - first_log_of marks) ≡ f = omega (arith, first) in e)
+
+  pub logs_turned : remaining_logs (marks ++ Sealed w k u f ∷ []) ≡ range_with_len f (current marks + 1 - f) ++ k ∷ []
+  logs_turned =
+      let last = (numbers marks w k u f may).last in let number = (numbers marks w k u f may).list in
+      ap (λ a. range_with_len a (current (marks ++ Sealed w k u f ∷ []) + 1 - a)) (first_push marks w k u f may)
+      ∙ ap (λ c. range_with_len f (c + 1 - f)) (current_push marks w k u f may)
+      ∙ ap (range_with_len f) (let e : current marks + 1 + 1 - f ≡ suc (current marks + 1 - f) = omega (arith, last, number) in e)
+      ∙ range_last f (current marks + 1 - f)
+      ∙ ap (λ x. range_with_len f (current marks + 1 - f) ++ x ∷ []) (let e : f + (current marks + 1 - f) ≡ k = omega (arith, last, number) in e)
 
 -- ---- what the image holds by its files
 
@@ -185,31 +205,14 @@ module _ (shards shard : ℕ) (image : Contents) (m : Mark) (marks : List Mark) 
   abbrev back : List ℕ
   back = range_with_len first_log (current (m ∷ marks) + 1 - first_log)
 
-  logs_were : remaining_logs (m ∷ marks) ≡ range_with_len (first_log_of (m ∷ marks)) (first_log - first_log_of (m ∷ marks)) ++ range_with_len first_log (current (m ∷ marks) + 1 - first_log)
-  logs_were =
-      let first = n.first in let last = n.last in let number = n.list in
-      ap (range_with_len (first_log_of (m ∷ marks))) (let e : current (m ∷ marks) + 1 - first_log_of (m ∷ marks) ≡ (first_log - first_log_of (m ∷ marks)) + (current (m ∷ marks) + 1 - first_log) = omega (arith, first, last, number) in e)
-      ∙ range_split (first_log_of (m ∷ marks)) (first_log - first_log_of (m ∷ marks)) (current (m ∷ marks) + 1 - first_log)
-      ∙ ap (λ b. range_with_len (first_log_of (m ∷ marks)) (first_log - first_log_of (m ∷ marks)) ++ range_with_len b (current (m ∷ marks) + 1 - first_log))
-      (let e : first_log_of (m ∷ marks) + (first_log - first_log_of (m ∷ marks)) ≡ first_log = omega (arith, first) in e)
-
-  logs_are : remaining_logs (m ∷ (marks ++ Sealed w k upto first_log ∷ [])) ≡ range_with_len first_log (current (m ∷ marks) + 1 - first_log) ++ k ∷ []
-  logs_are =
-      let last = n.last in let number = n.list in
-      ap (λ f. range_with_len f (current (m ∷ (marks ++ Sealed w k upto first_log ∷ [])) + 1 - f)) (first_push (m ∷ marks) w k upto first_log may)
-      ∙ ap (λ c. range_with_len first_log (c + 1 - first_log)) (current_push (m ∷ marks) w k upto first_log may)
-      ∙ ap (range_with_len first_log) (let e : current (m ∷ marks) + 1 + 1 - first_log ≡ suc (current (m ∷ marks) + 1 - first_log) = omega (arith, last, number) in e)
-      ∙ range_last first_log (current (m ∷ marks) + 1 - first_log)
-      ∙ ap (λ x. range_with_len first_log (current (m ∷ marks) + 1 - first_log) ++ x ∷ []) (let e : first_log + (current (m ∷ marks) + 1 - first_log) ≡ k = omega (arith, last, number) in e)
-
   all_read : read_logs image (front ++ back) [] ≡ Ok was.batches
-  all_read = ap (λ ls. read_logs image ls []) (sym logs_were) ∙ was.logs_read
+  all_read = ap (λ ls. read_logs image ls []) (sym (logs_split (m ∷ marks) w k upto first_log may)) ∙ was.logs_read
 
   splits : SplitLogs image front back was.batches
   splits = later_logs image front back was.batches all_read
 
   new_logs : read_logs image (remaining_logs (m ∷ (marks ++ Sealed w k upto first_log ∷ []))) [] ≡ Ok splits.remaining
-  new_logs = ap (λ ls. read_logs image ls []) logs_are ∙ new_log_is_empty image back k splits.remaining done.log splits.later_read
+  new_logs = ap (λ ls. read_logs image ls []) (logs_turned (m ∷ marks) w k upto first_log may) ∙ new_log_is_empty image back k splits.remaining done.log splits.later_read
 
   same_batches : done.batches ≡ was.batches
   same_batches = let both : Ok done.batches ≡ Ok was.batches = sym done.logs ∙ was.logs_read in cc

@@ -9,11 +9,13 @@ use Rattle.gor_model.specs.declared.start.Start.{Start}
 use Rattle.gor_model.specs.PlainMap.{kept_row_after, shard_floor, next_change}
 use Rattle.gor_model.specs.Lists.{EachBefore}
 use Rattle.gor_model.specs.Windows.{window, window_end, kept}
-use Rattle.gor_disk.specs.declared.disk.FileId.TheVariants.{Keys, Log, Block}
+use Rattle.gor_disk.specs.declared.disk.FileId.{FileId}
+use Rattle.gor_disk.specs.declared.disk.FileId.TheVariants.{Marks, Keys, Log, Block}
 use Rattle.gor_disk.specs.Disk.{Contents}
-use Rattle.gor_gate.specs.Gates.{gates, pushed, ended}
+use Rattle.gor_gate.specs.Gates.{gates, pushed, ended, IsClosed}
 use Rattle.gor_marks.specs.declared.mark.Mark.{Mark}
 use Rattle.gor_marks.specs.declared.mark.Mark.TheVariants.{Sealed}
+use Rattle.gor_marks.specs.Spelling.{spelling as mark_spelling}
 use Rattle.gor_keys.specs.declared.record.KeyRecord.{KeyRecord}
 use Rattle.gor_keys.specs.declared.record.KeyRecord.TheVariants.{Create, Delete, Live}
 use Rattle.gor_keys.specs.Spelling.{AreRecords, spelling}
@@ -198,3 +200,25 @@ abbrev pub NewFilesAreThere : Type 0
 NewFilesAreThere = (shards shard : ℕ) (image : Contents) (m : Mark) (marks : List Mark) (w k upto first_log : ℕ) (start : Start) (C : List Change)
     → IsBefore shards shard image (m ∷ marks) start C → MayFollow (m ∷ marks) (Sealed w k upto first_log) → next_change start C ≤ upto + 1
     → HasFinished image (m ∷ marks) w k first_log start C → HasNew image (m ∷ marks) (m ∷ (marks ++ Sealed w k upto first_log ∷ [])) w upto
+
+-- ---- the mark
+
+-- An image with the mark behind the marks of one that a finish made ready, which differs in the file of the marks alone, holds the
+-- same state by these marks and can be written on.
+abbrev pub FinishTurns : Type 0
+FinishTurns = (shards shard : ℕ) (given image : Contents) (m : Mark) (marks : List Mark) (w k upto first_log : ℕ) (start : Start) (C : List Change)
+    → IsBefore shards shard given (m ∷ marks) start C → MayFollow (m ∷ marks) (Sealed w k upto first_log) → next_change start C ≡ upto + 1
+    → HasFinished given (m ∷ marks) w k first_log start C → IsClosed (given (Keys k)) → IsClosed (given (Log k))
+    → gates (image Marks) ≡ pushed (mark_spelling (Sealed w k upto first_log)) (gates (given Marks)) → IsClosed (image Marks) → ((file : FileId) → file ≢ Marks → image file ≡ given file)
+    → IsBefore shards shard image (m ∷ (marks ++ Sealed w k upto first_log ∷ [])) start C
+
+-- the logs that remain with the mark are read as such batches, with the greatest windows that they had, and the new one with none
+pub record ReadsRemaining (image : Contents) (marks : List Mark) (k first_log : ℕ) (batches : List Batch) : Type 0 where
+  pub remaining : List Batch
+  pub read : read_logs image (remaining_logs marks) [] ≡ Ok remaining
+  pub same : (log : ℕ) → first_log ≤ log → top_of log remaining ≡ top_of log batches
+  pub none : top_of k remaining ≡ None
+
+abbrev pub TopsStay : Type 0
+TopsStay = (image : Contents) (marks : List Mark) (w k upto first_log : ℕ) (batches : List Batch) → MayFollow marks (Sealed w k upto first_log) → read_logs image (remaining_logs marks) [] ≡ Ok batches
+    → IsEmptyList (gates (image (Log k))) → ReadsRemaining image (marks ++ Sealed w k upto first_log ∷ []) k first_log batches

@@ -1,5 +1,5 @@
 //! What a finish may rely on.
-ghost use Rattle.gor_image.specs.FinishLaws.{NewLogIsEmpty, LiveListIsRead, BlocksStayLive, BlocksAreInFile, LowTopsHaveNoneBehind, SealsAreCopied, SeriesRise, BlockFileIsRead, LiveRecordsAreNames, NewFilesAreThere};
+ghost use Rattle.gor_image.specs.FinishLaws.{NewLogIsEmpty, LiveListIsRead, BlocksStayLive, BlocksAreInFile, LowTopsHaveNoneBehind, SealsAreCopied, SeriesRise, BlockFileIsRead, LiveRecordsAreNames, NewFilesAreThere, FinishTurns, TopsStay};
 
 /// The laws that a finish rests on, as clauses: what its new files are read as, before and once a mark names them.
 pub fn laws()
@@ -23,4 +23,8 @@ pub fn laws()
     ensures series { SeriesRise }
     // Where all that a finish made is there beside the old files, these files turn to the new ones.
     ensures has_new { NewFilesAreThere }
+    // So with the mark it holds the same state, is fit, and can be written on.
+    ensures turns { FinishTurns }
+    // The logs that remain are read as they were, with the greatest windows that they had, and the new one with none.
+    ensures tops_stay { TopsStay }
 {}

@@ -1,9 +1,11 @@
 use Rattle.gor_image.proofs.DroppedLogs.{low_tops}
+use Rattle.gor_image.proofs.FinishTurned.{finish_turns}
 use Rattle.gor_image.proofs.LiveBlocks.{blocks_are_in_file, blocks_stay_live}
 use Rattle.gor_image.proofs.NewBlocks.{block_file_is_read}
 use Rattle.gor_image.proofs.NewFiles.{live_list_is_read, new_log_is_empty}
 use Rattle.gor_image.proofs.NewIsThere.{live_names, new_files_are_there}
 use Rattle.gor_image.proofs.SealedPoints.{seals_are_copied, series_rise}
+use Rattle.gor_image.proofs.TurnedLogs.{tops_stay}
 use Rattle.gor_image.proofs.finish_laws.laws.Goals as goal
 
 pub returns-clause-new_log : goal.returns-clause-new_log
@@ -35,3 +37,9 @@ returns-clause-live_names c = live_names
 
 pub returns-clause-has_new : goal.returns-clause-has_new
 returns-clause-has_new c = new_files_are_there
+
+pub returns-clause-turns : goal.returns-clause-turns
+returns-clause-turns c = finish_turns
+
+pub returns-clause-tops_stay : goal.returns-clause-tops_stay
+returns-clause-tops_stay c = tops_stay
