@@ -1,6 +1,6 @@
 -- A mark that follows a list of marks.
-use Rattle.std.proofs.Common.{◌≡◌, ℕ, zero, suc, ◌+◌, ◌-◌, ◌<◌, ◌≤◌, ◌^◌, List, [], ◌∷◌, ◌++◌, length, true, false, Bool, Option, Some, None, refl, sym, ap, ◌∙◌, subst, arith, append_assoc}
-use Rattle.std.specs.Prelude.{map, filter, filter_map, nat_lt, nat_eq, not, Result, Ok, Err, if◌then◌else◌, ⊤}
+use Rattle.std.proofs.Common.{◌≡◌, ℕ, zero, suc, ◌+◌, ◌-◌, ◌<◌, ◌≤◌, List, [], ◌∷◌, ◌++◌, length, true, false, Bool, Option, Some, None, refl, sym, ap, ◌∙◌, subst, arith, append_assoc}
+use Rattle.std.specs.Prelude.{map, nat_lt, nat_eq, not, Result, Ok, Err, if◌then◌else◌}
 use Rattle.std.specs.List.{AllByRecursion, range_with_len}
 use Rattle.std.proofs.lemmas.List.{append-nil}
 use Rattle.gor_model.specs.Windows.{last_window}
@@ -16,7 +16,7 @@ use Rattle.gor_image.proofs.ReadBack.{unless, not_false}
 use Rattle.gor_flush.specs.NextMarks.{first_needed, is_later, next_mark}
 use Rattle.gor_flush.specs.Writes.{raised}
 use Rattle.gor_flush.specs.Dropping.{AreSomeMarks}
-use Rattle.gor_flush.proofs.MarkLists.{current_push, window_push, follows, log_within}
+use Rattle.gor_flush.proofs.MarkLists.{current_push, window_push, log_within}
 
 -- ---- how many marks there are
 

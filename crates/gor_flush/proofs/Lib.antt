@@ -29,3 +29,7 @@ pub mod FitTests
 pub mod NeededLogs
 pub mod Following
 pub mod TurnedTops
+pub mod WithinFinish
+pub mod Unread
+pub mod HasTurned
+pub mod TopsTurned

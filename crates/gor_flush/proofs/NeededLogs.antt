@@ -1,6 +1,6 @@
 -- The first log that a mark keeps.
-use Rattle.std.proofs.Common.{◌≡◌, ℕ, zero, suc, ◌+◌, ◌<◌, List, [], ◌∷◌, length, take, true, false, Option, Some, None, refl, sym, arith, max}
-use Rattle.std.specs.Prelude.{nat_lt, slice_index_or}
+use Rattle.std.proofs.Common.{◌≡◌, ℕ, zero, suc, ◌+◌, ◌<◌, List, [], ◌∷◌, length, take, true, false, Option, Some, None, refl, arith}
+use Rattle.std.specs.Prelude.{slice_index_or}
 use Rattle.std.specs.List.{AllByRecursion}
 use Rattle.gor_journal.specs.Entries.{greater}
 use Rattle.gor_recover.specs.declared.recovered.LogTop.{LogTop}

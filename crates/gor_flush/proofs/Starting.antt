@@ -10,7 +10,7 @@ use Rattle.gor_model.specs.Changes.{History}
 use Rattle.gor_model.specs.Shares.{DeviceShare, DoneAt, device_share}
 use Rattle.gor_journal.specs.Bodies.{stored}
 use Rattle.gor_image.specs.Images.{current}
-use Rattle.gor_flush.specs.Devices.{Shown, HoldsPrefix, IsRunning, Kept, RunsBy, StandsFor, StillBy, last_count}
+use Rattle.gor_flush.specs.Devices.{Shown, HoldsPrefix, IsRunning, Kept, RunsBy, StillBy, last_count}
 use Rattle.gor_flush.specs.Flushes.{HasHead}
 use Rattle.gor_flush.specs.Keeps.{CallKeeps, DoneExtends, HasSameDisk, StepKeeps, StandsStill, StopsAfter, with_disk}
 use Rattle.gor_flush.specs.Takes.{HasTaken, with_buffers}

@@ -4,13 +4,10 @@ use Rattle.std.specs.List.{list_any}
 use Rattle.gor_disk.specs.declared.disk.FileId.{FileId}
 use Rattle.gor_disk.specs.declared.disk.FileId.TheVariants.{Marks, Keys, Log, Block}
 use Rattle.gor_disk.specs.Disk.{DiskView}
-use Rattle.gor_model.specs.declared.event.Change.{Change}
-use Rattle.gor_model.specs.declared.start.Start.{Start}
 use Rattle.gor_marks.specs.declared.mark.Mark.{Mark}
 use Rattle.gor_marks.specs.declared.mark.Mark.TheVariants.{Home, Sealed}
-use Rattle.gor_image.specs.Laws.{IsBefore}
 use Rattle.gor_image.specs.MarkLists.{AreMarksOrNone}
-use Rattle.gor_image.specs.DiskSteps.{IsGone, Keeps}
+use Rattle.gor_image.specs.DiskSteps.{IsGone}
 use Rattle.gor_image.specs.ReadFiles.{is_replaced}
 
 -- no marks, or those of some shard

@@ -12,3 +12,5 @@ pub mod Opening
 pub mod Preparing
 pub mod Found
 pub mod NextMarks
+pub mod Finishes
+pub mod Finished

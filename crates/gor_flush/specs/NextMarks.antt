@@ -1,5 +1,5 @@
 -- The mark that a finish appends, by the marks before it and the logs that remain.
-use Rattle.std.specs.Prelude.{◌≡◌, ℕ, ◌+◌, ◌<◌, ◌≤◌, nat_lt, nat_le, List, [], ◌∷◌, ◌++◌, map, filter, Option, Some, None, Bool, true, false, vec_len, vec_capacity}
+use Rattle.std.specs.Prelude.{◌≡◌, ℕ, ◌+◌, ◌<◌, nat_lt, nat_le, List, [], ◌∷◌, ◌++◌, map, filter, Option, Some, None, Bool, false, vec_len, vec_capacity}
 use Rattle.gor_disk.specs.declared.disk.FileId.TheVariants.{Keys, Log}
 use Rattle.gor_gate.specs.Places.{Place}
 use Rattle.gor_marks.specs.declared.mark.Mark.{Mark}

@@ -7,6 +7,7 @@ ghost use Rattle.gor_image.specs.MarkLists.{AreMarks, MayFollow};
 ghost use Rattle.gor_recover.specs.Recovered.{AreTops};
 ghost use Rattle.gor_image.specs.Recovery.{is_above};
 ghost use Rattle.gor_flush.specs.Devices.{shown};
+ghost use Rattle.gor_flush.specs.Finishes.{StandsTurned};
 ghost use Rattle.gor_flush.specs.NextMarks.{AreFilesOf, HasRoomToTurn, TurnsBeside, first_needed, is_later, next_mark, turned_tops};
 ghost use Rattle.gor_flush.specs.Writes.{raised};
 
@@ -57,7 +58,8 @@ impl<D: Disk> Device<D> {
     /// with the mark, `tops` has the logs that remain by it, and what is written from here on goes to the two files. It takes
     /// no memory and calls no disk.
     ///
-    /// The mark is the one that follows the list, and room was made for it.
+    /// The mark is the one that follows the list, and room was made for it. Whatever share the device stood for before the mark was
+    /// written, it stands for again, where each image has the mark by now, and holds all changes that were taken.
     pub fn turn(&mut self, mark: Mark, keys: Gated, log: Gated)
         requires room { HasRoomToTurn self.old }
         requires marks { AreMarks self.old.shards self.old.shard self.old.list.items }
@@ -70,6 +72,7 @@ impl<D: Disk> Device<D> {
         ensures tops { AreTops self.new.list.items self.new.tops.items }
         ensures files { (self.new.keys ≡ keys) × (self.new.log ≡ log) }
         ensures beside { TurnsBeside (shown D.tells D.view D.faults self.old) (shown D.tells D.view D.faults self.new) }
+        ensures stands { StandsTurned (shown D.tells D.view D.faults self.old) (shown D.tells D.view D.faults self.new) }
     {
         turn_logs(mark, &mut self.tops);
         self.list.push_reserved(mark);

@@ -5,6 +5,7 @@ ghost use Rattle.gor_gate.specs.Places.{IsEnsured};
 ghost use Rattle.gor_journal.specs.Bodies.{AreEmpty};
 ghost use Rattle.gor_journal.specs.Entries.{greater};
 ghost use Rattle.gor_flush.specs.Devices.{shown};
+ghost use Rattle.gor_flush.specs.Finishes.{StandsWritten};
 ghost use Rattle.gor_flush.specs.Keeps.{StandsStill, StopsAfter};
 ghost use Rattle.gor_flush.specs.Lending.{holding};
 ghost use Rattle.gor_flush.specs.contracts.device.Device.{the_row};
@@ -50,12 +51,14 @@ impl<D: Disk> Device<D> {
     /// disk since the opening. The buffers are then empty, and the last of `tops` is the greater of what it was and the
     /// greatest window of the puts that were written. With no changes it calls no disk. It takes no memory.
     ///
-    /// Within the call every image holds the changes before the Take, or all of them; after `Ok` all of them. `DeviceFault`
+    /// Within the call every image holds the changes before the Take, or all of them; after `Ok` all of them. The Take is then
+    /// written, and its Done may come at once, as in a flush, or at the end of a finish. `DeviceFault`
     /// comes only where the disk's count of faults rose. It stops the device, which is not to be written again.
     pub fn write_taken(&mut self) -> Result<u64, DeviceFault>
         requires running { self.old.stopped ≡ false }
         requires may { MayWrite (shown D.tells D.view D.faults self.old) }
         ensures done { OnOk result (StandsDone (shown D.tells D.view D.faults self.old) (shown D.tells D.view D.faults self.new)) }
+        ensures finish { OnOk result (StandsWritten (shown D.tells D.view D.faults self.old) (shown D.tells D.view D.faults self.new)) }
         ensures count { CountsAll (shown D.tells D.view D.faults self.old) result }
         ensures key_file { self.new.keys.file ≡ self.old.keys.file }
         ensures log_file { self.new.log.file ≡ self.old.log.file }

@@ -36,16 +36,16 @@ use Rattle.gor_image.proofs.FitStands.{KeysRight, keys_right, bodies_counted, wh
 
 -- ---- what reading the files of fit marks gives
 
-record FilesRead (image : Contents) (marks : List Mark) (files : Files) : Type 0 where
-  keys : KeysRead
-  blocks : List BlockRow
-  batches : List Batch
-  keys_read : read_gated image (read_keys (nat_lt 0 (current marks))) (Keys (current marks)) (keys_from (base_of marks).upto) ≡ Ok keys
-  blocks_read : read_blocks image (live_windows marks) ≡ Ok blocks
-  logs_read : read_logs image (remaining_logs marks) [] ≡ Ok batches
-  are : files_as marks keys blocks batches ≡ files
+pub record FilesRead (image : Contents) (marks : List Mark) (files : Files) : Type 0 where
+  pub keys : KeysRead
+  pub blocks : List BlockRow
+  pub batches : List Batch
+  pub keys_read : read_gated image (read_keys (nat_lt 0 (current marks))) (Keys (current marks)) (keys_from (base_of marks).upto) ≡ Ok keys
+  pub blocks_read : read_blocks image (live_windows marks) ≡ Ok blocks
+  pub logs_read : read_logs image (remaining_logs marks) [] ≡ Ok batches
+  pub are : files_as marks keys blocks batches ≡ files
 
-files_read : (image : Contents) (marks : List Mark) (files : Files) → read_files image marks ≡ Ok files → FilesRead image marks files
+pub files_read : (image : Contents) (marks : List Mark) (files : Files) → read_files image marks ≡ Ok files → FilesRead image marks files
 files_read image marks files is =
     let k = after_ok (read_gated image (read_keys (nat_lt 0 (current marks))) (Keys (current marks)) (keys_from (base_of marks).upto))
     (λ keys. and_then (read_blocks image (live_windows marks)) (λ blocks. and_then (read_logs image (remaining_logs marks) []) (λ batches. Ok (files_as marks keys blocks batches)))) files is in

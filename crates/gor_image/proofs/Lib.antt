@@ -39,3 +39,12 @@ pub mod WorkedMarks
 pub mod OpenAgain
 pub mod ReadFiles
 pub mod Kept
+pub mod NewFiles
+pub mod LiveBlocks
+pub mod DroppedLogs
+pub mod SealedPoints
+pub mod NewBlocks
+pub mod LiveNames
+pub mod NewIsThere
+pub mod TurnedLogs
+pub mod FinishTurned

@@ -12,3 +12,4 @@ pub mod Laws
 pub mod DiskSteps
 pub mod ReadFiles
 pub mod Turns
+pub mod FinishLaws

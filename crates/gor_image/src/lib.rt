@@ -9,6 +9,7 @@
 //! - `fault`: what may be wrong with an image.
 //! - `laws`: what appends may rely on. A body behind the current key list, and one behind the current log, go on from the
 //!   state that the image holds by exactly the changes that they spell; key records that no batch covers change nothing.
+//! - `finish_laws`: what a finish may rely on. Its new files are read as what they spell, and of the old ones what is kept stays.
 //!
 //! The definitions stand in `specs/`: `Records` and `Recovery` (the meaning of records that are in order), `Grammars` and
 //! `Blocks` (bodies and block files as records with their places), `Images` (the chain of checks), `Holding` and `Fit`
@@ -17,6 +18,7 @@
 #![tactic(auto)]
 
 mod fault;
+pub mod finish_laws;
 pub mod laws;
 
 pub use fault::{DamageKind, ImageFault};

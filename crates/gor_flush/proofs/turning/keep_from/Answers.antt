@@ -1,4 +1,4 @@
-use Rattle.std.proofs.Common.{rules, ◌≡◌, nat_le}
+use Rattle.std.proofs.Common.{rules, nat_le}
 use Rattle.std.proofs.lemmas.Fn.{filter_same}
 use Rattle.gor_recover.specs.declared.recovered.LogTop.{LogTop}
 use Rattle.gor_flush.proofs.turning.keep_from.Goals as goal

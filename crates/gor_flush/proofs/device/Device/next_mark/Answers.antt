@@ -1,11 +1,10 @@
-use Rattle.std.proofs.Common.{◌≡◌, ◌+◌, ◌<◌, ◌≤◌, ◌^◌, ℕ, List, arith, sym, ap, subst, ◌∙◌}
-use Rattle.std.specs.Int.{w32}
+use Rattle.std.proofs.Common.{◌≡◌, ◌+◌, List, arith, sym, ap, subst, ◌∙◌}
 use Rattle.gor_marks.specs.declared.mark.Mark.{Mark}
 use Rattle.gor_marks.specs.declared.mark.Mark.TheVariants.{Sealed}
 use Rattle.gor_image.specs.Images.{current}
 use Rattle.gor_image.specs.MarkLists.{MayFollow}
 use Rattle.gor_recover.specs.declared.recovered.LogTop.{LogTop}
-use Rattle.gor_flush.specs.NextMarks.{first_needed, next_mark}
+use Rattle.gor_flush.specs.NextMarks.{first_needed}
 use Rattle.gor_flush.specs.Writes.{raised}
 use Rattle.gor_flush.proofs.Following.{are_few, count_of, next_few, next_follows}
 use Rattle.gor_flush.proofs.device.Device.next_mark.Goals as goal

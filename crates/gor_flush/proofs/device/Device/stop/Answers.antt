@@ -1,6 +1,6 @@
 use Rattle.std.proofs.Common.{◌≡◌, true, sym, ap}
 use Rattle.gor_flush.specs.Devices.{shown}
-use Rattle.gor_flush.proofs.Starting.{not_running, stands_still, stays_stopped, stops_after}
+use Rattle.gor_flush.proofs.Starting.{stands_still, stays_stopped, stops_after}
 use Rattle.gor_flush.proofs.device.Device.stop.Goals as goal
 
 pub returns-then-not-self-clause-stands : goal.returns-then-not-self-clause-stands

@@ -1,4 +1,4 @@
-use Rattle.std.proofs.Common.{refl, sym, ap, true, ◌+◌}
+use Rattle.std.proofs.Common.{refl, sym, ap, true, ◌+◌, arith}
 use Rattle.gor_flush.specs.Devices.{shown}
 use Rattle.gor_flush.specs.Takes.{with_buffers}
 use Rattle.gor_flush.proofs.Written.{all_counted, stands_done, stands_stopped}
@@ -23,6 +23,9 @@ returns-in-Ok-clause-done g c = λ start h has.
       has_log = c.in-Ok.ensures.has_log t;
       extended = λ shards shard m marks s C E may. (c.in-Ok.ensures.changes t shards shard m marks s C E may).1;
     })
+
+pub returns-in-Ok-clause-finish : goal.returns-in-Ok-clause-finish
+returns-in-Ok-clause-finish g c = λ start h has. record { moment = (g.D.Disk.view c.append_taken.new.disk).moment; come = omega arith; stands = returns-in-Ok-clause-done g c start h has }
 
 pub returns-in-Ok-clause-count : goal.returns-in-Ok-clause-count
 returns-in-Ok-clause-count g c = λ start h has.
