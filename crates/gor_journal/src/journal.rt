@@ -12,13 +12,14 @@ ghost use Rattle.gor_journal.specs.Stands.{Stands, AreOf};
 use crate::buffers::Buffers;
 use crate::entry::{Entry, greater, key_need, log_need, weight_of, window_of};
 use crate::writing::{put_keys, put_log, put_range};
+use gor_model::DUE_WEIGHT;
 use gor_rule::Thing;
 use std::alloc::{AllocError, Global};
 use std::marker::Model;
 use std::mem;
 
-/// Room for the batch of a usual flush, which is due once the weight is 65,536.
-const LOG_ROOM: usize = 25 + 65_536 + 21 + 1;
+/// Room for the batch of a usual flush, which is due once the weight is `DUE_WEIGHT`.
+const LOG_ROOM: usize = 25 + DUE_WEIGHT as usize + 21 + 1;
 
 /// The changes of a shard that wait for the next flush, the number of the next one, and whether the shard is stopped.
 ///

@@ -1,5 +1,5 @@
 //! Puts to a series that is there.
-ghost use Rattle.std.specs.Prelude.{◌≡◌, ◌+◌, ◌^◌, ◌<◌, ◌≤◌, ◌&&◌, [], ◌∷◌, Some, true, false, nat_lt, nat_le, IfOk, IfSome, IfNone, OnOk, OnErr, IsSome};
+ghost use Rattle.std.specs.Prelude.{◌≡◌, ◌+◌, ◌^◌, ◌<◌, ◌≤◌, [], ◌∷◌, Some, true, false, IfOk, IfSome, IfNone, OnOk, OnErr, IsSome};
 ghost use Rattle.gor_model.specs.declared.start.Move.TheVariants.{Took, Gave};
 ghost use Rattle.gor_model.specs.Answers.{MayPut};
 ghost use Rattle.gor_model.specs.Names.{key_of};
@@ -21,6 +21,7 @@ use crate::parts::{give_series, take_journal, take_series};
 use gor_cell::CellPut;
 use gor_hall::{Hall, Pass};
 use gor_journal::Entry;
+use gor_model::is_due;
 use gor_name::Name;
 use gor_rule::Says;
 use std::alloc::AllocError;
@@ -86,14 +87,6 @@ impl Says for Put<'_> {
     ghost use Rattle.gor_steps.specs.Puts.{put_event};
 
     ghost event = { λ p. put_event p.lane p.slot p.point.now p.answer };
-}
-
-/// Whether a put brings the weight of what waits to the limit.
-pub(crate) fn is_due(weight: u64) -> bool
-    requires { weight < 2 ^ 63 }
-    ensures { result ≡ (nat_lt weight 65536 && nat_le 65536 (weight + 21)) }
-{
-    weight < 65536 && 65536 <= weight + 21
 }
 
 // Makes the room for a put in both.
