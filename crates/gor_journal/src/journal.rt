@@ -1,11 +1,11 @@
 //! The journal of a shard: changes that wait for a flush.
 ghost use Rattle.std.specs.Prelude.{◌≡◌, ℕ, ◌+◌, ◌^◌, ◌<◌, ◌≤◌, [], false, IfOk, OnOk, List, vec_len, vec_capacity};
 ghost use Rattle.gor_model.specs.Shares.{JournalShare, journal_share};
-ghost use Rattle.gor_model.specs.SharesAfter.{journal_with, journal_taken, journal_stopped};
+ghost use Rattle.gor_model.specs.SharesAfter.{journal_taken, journal_stopped};
 ghost use Rattle.gor_model.specs.declared.start.Start.{Start};
 ghost use Rattle.gor_journal.specs.Bodies.{IsWaiting, AreEmpty, HoldAll, pending_of, with_entry, emptied, stopping, fresh};
-ghost use Rattle.gor_journal.specs.Entries.{InLimits, key_need, log_need, change_of, besides_of};
-ghost use Rattle.gor_journal.specs.Events.{Makes, IsTake, IsStop, StandsAfter};
+ghost use Rattle.gor_journal.specs.Entries.{InLimits, key_need, log_need};
+ghost use Rattle.gor_journal.specs.Events.{Makes, IsTake, IsStop, StandsAfter, AddsChange};
 ghost use Rattle.gor_journal.specs.Records.{first_number};
 ghost use Rattle.gor_journal.specs.Stands.{Stands, AreOf};
 
@@ -131,7 +131,7 @@ impl Journal {
         requires buffered { self.old.pending.buffered < 2 ^ 50 }
         ensures number { result ≡ self.old.pending.next }
         ensures added { self.new.pending ≡ with_entry entry.now self.old.pending }
-        ensures stands { (name key : List ℕ) (share : JournalShare) → Stands self.old.pending share → Stands self.new.pending (journal_with (change_of name key entry.now) (besides_of result entry.now) share) }
+        ensures stands { AddsChange result entry.now self.old.pending self.new.pending }
         ensures after { StandsAfter self.old.pending self.new.pending (Makes entry.now) }
     {
         let number = self.next;
