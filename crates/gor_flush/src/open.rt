@@ -9,8 +9,8 @@ ghost use Rattle.gor_recover.specs.Recovered.{IsRecovered};
 ghost use Rattle.gor_marks.specs.Spelling.{IsHome};
 ghost use Rattle.gor_flush.specs.Devices.{shown};
 ghost use Rattle.gor_flush.specs.Dropping.{AreDropped};
-ghost use Rattle.gor_flush.specs.Opening.{AreFiles, AreEnsured, HoldsOn, IsOpened, IsUnwritten};
-ghost use Rattle.gor_flush.specs.Preparing.{BeginsAt, device_marks};
+ghost use Rattle.gor_flush.specs.Opening.{AreFiles, AreEnsured, HoldsOn, IsUnwritten};
+ghost use Rattle.gor_flush.specs.Preparing.{BeginsAt, device_marks, OpensHome};
 ghost use Rattle.gor_flush.specs.Starts.{StandsAtStart};
 ghost use Rattle.gor_image.specs.DiskSteps.{GoesOn};
 
@@ -56,7 +56,7 @@ fn get_ready<D: Disk>(
     ensures ensured { IsTrue D.tells → IfOk result (λ r. AreEnsured r.prepared.files (D.view disk.new)) }
     ensures goes { IsTrue D.tells → GoesOn (D.view disk.old) (D.view disk.new) }
     ensures held { IsTrue D.tells → HoldsOn shards shard ((D.view disk.old).seen) (D.view disk.old) (D.view disk.new) }
-    ensures opened { IsTrue D.tells → IfOk result (λ r. IsOpened shards shard ((D.view disk.old).seen) (device_marks shards shard r.recovered.marks.items) r.recovered.tops.items (D.view disk.new)) }
+    ensures opened { IsTrue D.tells → IfOk result (λ r. OpensHome shards shard r.recovered (D.view disk.old) (D.view disk.new)) }
     ensures rest { IsTrue D.tells → OnOk result (NothingPending (D.view disk.new)) }
     ensures dropped { IsTrue D.tells → IfOk result (λ r. AreDropped (device_marks shards shard r.recovered.marks.items) (D.view disk.new)) }
     ensures err { IsTrue D.tells → IfErr result (IsMet (opens_to ((D.view disk.old).seen) shards shard slots)) }

@@ -4,14 +4,13 @@ ghost use Rattle.gor_model.specs.declared.start.Move.TheVariants.{Took, Gave};
 ghost use Rattle.gor_model.specs.Answers.{MayPut};
 ghost use Rattle.gor_model.specs.Names.{key_of};
 ghost use Rattle.gor_model.specs.Objects.{Has, share_of};
-ghost use Rattle.gor_rule.specs.Plays.{without};
 ghost use Rattle.gor_hall.specs.Halls.{IsPassOf, start_of};
 ghost use Rattle.gor_hall.specs.Passes.{view, held, at, lane_of, left_of_pass, moves};
 ghost use Rattle.gor_model.specs.Windows.{greatest_time};
 ghost use Rattle.gor_model.specs.Fields.{IsNumber};
 ghost use Rattle.gor_cell.specs.Stands.{KeepsShare};
 ghost use Rattle.gor_cell.specs.Steps.{HasRoom, holds_key};
-ghost use Rattle.gor_steps.specs.Points.{IsBack, MakesNone};
+ghost use Rattle.gor_steps.specs.Points.{IsBack, MakesNone, GivesBoth};
 ghost use Rattle.gor_steps.specs.Puts.{HasBoth, PutsIn, PutMakes, PutsIfThere, PutsAt};
 ghost use Rattle.gor_steps.specs.Views.{IsSound};
 
@@ -148,7 +147,7 @@ pub(crate) fn put_there<V: Parts<K>, K>(
     requires stands { HasBoth (view pass.old) slot both }
     requires holds { holds_key (key_of point.now.name.now) both.cell.live ≡ true }
     requires point { MayPut point.now.name.now (key_of point.now.name.now) point.now.time }
-    ensures pass { IsPassOf shard.now pass.new × (lane_of pass.new ≡ lane_of pass.old) × (held pass.new ≡ without (slot + 2) (without ((start_of shard.now).slots + 2) (held pass.old))) }
+    ensures pass { GivesBoth slot shard.now pass.old pass.new }
     ensures event { IfOk result (λ r. PutMakes pass.old point.now pass.new r.number r.answer) }
     ensures none { OnErr result (MakesNone pass.old pass.new) }
     ensures index { Has (held pass.old) 1 → share_of (view pass.new).start 1 (at pass.new) ≡ share_of (view pass.old).start 1 (at pass.old) }
