@@ -6,8 +6,8 @@ use Rattle.gor_model.specs.declared.unit.Unit.{Unit as TimeUnit}
 use Rattle.gor_model.specs.declared.unit.Unit.TheVariants.{Second}
 use Rattle.gor_model.specs.Windows.{window_in}
 use Rattle.gor_model.specs.PlainMap.{last_of}
+use Rattle.gor_model.proofs.Lists.{last_push}
 use Rattle.gor_block.specs.PointBlock.{PointBlock, MayFollow, followed, last_time}
-use Rattle.gor_block.proofs.Lists.{last_of-more}
 use Rattle.gor_bench.specs.Steps.{IsBlockBefore}
 
 some_in : (points : List Point) (t : ℕ) → option_map (λ (p : Point). p.time) (last_of points) ≡ Some t → 1 ≤ length points
@@ -35,7 +35,7 @@ may_follow b w step p before few at = record {
 }
 
 last_is : (points : List Point) (p : Point) → option_map (λ (q : Point). q.time) (last_of (points ++ p ∷ [])) ≡ Some p.time
-last_is points p = ap (λ (o : Option Point). option_map (λ (q : Point). q.time) o) (last_of-more points p)
+last_is points p = ap (λ (o : Option Point). option_map (λ (q : Point). q.time) o) (last_push points p)
 
 pub is_before_next : (b c : PointBlock) (room w step : ℕ) (p : Point) → IsBlockBefore b w step → p.time ≡ w * 7200 + 60 * step → c ≡ followed (record b { room = room }) p → IsBlockBefore c w (step + 1)
 is_before_next b c room w step p before at is = subst (λ (d : PointBlock). IsBlockBefore d w (step + 1)) (sym is) (record {

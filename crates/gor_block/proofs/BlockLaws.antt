@@ -10,12 +10,13 @@ use Rattle.gor_model.specs.Lists.{EachBefore}
 use Rattle.gor_model.specs.Windows.{window_in, window_length, last_window}
 use Rattle.gor_model.specs.PlainMap.{last_of}
 use Rattle.gor_model.specs.Codes.{block_bits}
+use Rattle.gor_model.proofs.Lists.{all_reverse, rising_push, last_push}
 use Rattle.gor_times.specs.Times.{IsNext}
 use Rattle.gor_block.specs.Marks.{PointMark, mark_of, mark_after, first_mark, next_code, IsNextPoint, IsChain}
 use Rattle.gor_block.specs.Decoded.{decoded, IsHeld, IsRead}
 use Rattle.gor_block.specs.PointBlock.{PointBlock, IsBlock, MayFollow, followed}
 use Rattle.gor_block.proofs.Finding.{begins_as, begins_whole}
-use Rattle.gor_block.proofs.Lists.{reverse-more, all_reverse, each_reverse, before_more, last_of-more}
+use Rattle.gor_block.proofs.Lists.{reverse-more, places_reverse}
 use Rattle.gor_block.proofs.MarkLaws.{mark_unit, mark_window, mark_of-none, few_points, good_of}
 use Rattle.gor_block.proofs.CodeLaws.{bits_more}
 use Rattle.gor_block.proofs.DecodedLaws.{decoded_is, decoded_none, length-decoded}
@@ -40,7 +41,7 @@ rising : (u : TimeUnit) (w : ℕ) (points : List Point) → IsChain u w points �
 rising u w [] chain = tt
 rising u w (p ∷ older) chain =
     subst (λ (xs : List Point). EachBefore (λ x y. x.time < y.time) xs) (sym (reverse-more p older))
-    (before_more (λ x y. x.time < y.time) (reverse older) p (rising u w older chain.1) (each_reverse (λ q. q.time < p.time) older (earlier u w p older chain)))
+    (rising_push (λ x y. x.time < y.time) (reverse older) p (rising u w older chain.1) (all_reverse (λ q. q.time < p.time) older (earlier u w p older chain)))
 
 pub in_window : (u : TimeUnit) (w time : ℕ) → w * window_length u ≤ time → time < (w + 1) * window_length u → window_in u time ≡ w
 in_window Second w time a b = omega arith
@@ -73,12 +74,12 @@ all_small u w (p ∷ older) chain = (chain.0.word, all_small u w older chain.1)
 pub chain_block : (u : TimeUnit) (w : ℕ) (points : List Point) (room : ℕ) → w ≤ last_window → IsChain u w points → IsBlock (shown u w points room)
 chain_block u w points room limit chain = record {
   limit = limit;
-  words = all_reverse (λ p. p.word < 2 ^ 64) points (all_small u w points chain);
+  words = places_reverse (λ p. p.word < 2 ^ 64) points (all_small u w points chain);
   code = λ some. record {
     some = some;
     room = omega (arith, length-reverse points, few_points u w points chain);
     rising = rising u w points chain;
-    inside = all_reverse (λ p. window_in u p.time ≡ w) points (all_inside u w points chain);
+    inside = places_reverse (λ p. window_in u p.time ≡ w) points (all_inside u w points chain);
     coded = refl;
   };
 }
@@ -93,7 +94,7 @@ pub last_some : (u : TimeUnit) (w : ℕ) (points : List Point) → 1 ≤ length 
 unfolding mark_of
 last_some u w [] h = absurd (omega arith)
 last_some u w (p ∷ older) h =
-    ap (λ (xs : List Point). option_map (λ q. q.time) (last_of xs)) (reverse-more p older) ∙ ap (λ (o : Option Point). option_map (λ q. q.time) o) (last_of-more (reverse older) p)
+    ap (λ (xs : List Point). option_map (λ q. q.time) (last_of xs)) (reverse-more p older) ∙ ap (λ (o : Option Point). option_map (λ q. q.time) o) (last_push (reverse older) p)
 
 -- ---- new blocks, and one more point
 

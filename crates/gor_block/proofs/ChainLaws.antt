@@ -1,25 +1,22 @@
 -- The points of a block, the newest first, may each stand behind those before it.
-use Rattle.std.proofs.Common.{◌≡◌, ℕ, suc, ◌+◌, ◌*◌, ◌^◌, ◌<◌, ◌≤◌, List, [], ◌∷◌, length, true, false, sym, subst, arith}
+use Rattle.std.proofs.Common.{◌≡◌, ℕ, ◌+◌, ◌*◌, ◌^◌, ◌<◌, ◌≤◌, List, [], ◌∷◌, length, true, false, sym, subst, arith}
 use Rattle.std.specs.Prelude.{reverse, All}
 use Rattle.std.specs.List.{AllByRecursion}
 use Rattle.gor_model.specs.declared.point.Point.{Point}
 use Rattle.gor_model.specs.declared.unit.Unit.{Unit as TimeUnit}
 use Rattle.gor_model.specs.Lists.{EachBefore}
 use Rattle.gor_model.specs.Windows.{window_in, window_length}
+use Rattle.gor_model.proofs.Lists.{all_places, all_reverse, rising_push}
 use Rattle.gor_block.specs.Marks.{mark_of, IsChain}
 use Rattle.gor_block.specs.PointBlock.{PointBlock, IsBlock}
-use Rattle.gor_block.proofs.Lists.{reverse-more, each_reverse, before_more}
+use Rattle.gor_block.proofs.Lists.{reverse-more}
 use Rattle.gor_block.proofs.MarkLaws.{mark_unit, mark_window}
 use Rattle.gor_block.proofs.BlockLaws.{from_window}
-
-pub each_of : {X : Type 0} (P : X → Type 0) (xs : List X) → All P xs → AllByRecursion P xs
-each_of P [] all = tt
-each_of P (x ∷ xs) all = (all 0 x (omega arith), each_of P xs (λ k d below. all (suc k) d (omega arith)))
 
 before_reverse : {X : Type 0} (R : X → X → Type 0) (xs : List X) → EachBefore R xs → EachBefore (λ y x. R x y) (reverse xs)
 before_reverse R [] h = tt
 before_reverse {X} R (x ∷ xs) h =
-    subst (λ (ys : List X). EachBefore (λ b a. R a b) ys) (sym (reverse-more x xs)) (before_more (λ b a. R a b) (reverse xs) x (before_reverse R xs h.1) (each_reverse (λ y. R x y) xs h.0))
+    subst (λ (ys : List X). EachBefore (λ b a. R a b) ys) (sym (reverse-more x xs)) (rising_push (λ b a. R a b) (reverse xs) x (before_reverse R xs h.1) (all_reverse (λ y. R x y) xs h.0))
 
 chain_from : (u : TimeUnit) (w : ℕ) (points : List Point) → AllByRecursion (λ p. window_in u p.time ≡ w) points → AllByRecursion (λ p. p.word < 2 ^ 64) points → EachBefore (λ p q. q.time < p.time) points → IsChain u w points
 unfolding mark_of
@@ -38,8 +35,8 @@ chain_from u w (p ∷ q ∷ older) inside small falls =
 -- rising points of one window make a chain
 pub chain_of : (u : TimeUnit) (w : ℕ) (points : List Point) → All (λ p. window_in u p.time ≡ w) points → All (λ p. p.word < 2 ^ 64) points → EachBefore (λ p q. p.time < q.time) points → IsChain u w (reverse points)
 chain_of u w points inside small rising =
-    chain_from u w (reverse points) (each_reverse (λ p. window_in u p.time ≡ w) points (each_of (λ p. window_in u p.time ≡ w) points inside))
-    (each_reverse (λ p. p.word < 2 ^ 64) points (each_of (λ p. p.word < 2 ^ 64) points small)) (before_reverse (λ p q. p.time < q.time) points rising)
+    chain_from u w (reverse points) (all_reverse (λ p. window_in u p.time ≡ w) points (all_places (λ p. window_in u p.time ≡ w) points inside))
+    (all_reverse (λ p. p.word < 2 ^ 64) points (all_places (λ p. p.word < 2 ^ 64) points small)) (before_reverse (λ p q. p.time < q.time) points rising)
 
 pub chain_of_block : (b : PointBlock) → IsBlock b → 1 ≤ length b.points → IsChain b.unit b.window (reverse b.points)
 chain_of_block b block some = let code = block.code some in chain_of b.unit b.window b.points code.inside block.words code.rising

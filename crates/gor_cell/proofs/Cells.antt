@@ -7,13 +7,13 @@ use Rattle.gor_model.specs.declared.point.Point.{Point}
 use Rattle.gor_model.specs.PlainMap.{last_of}
 use Rattle.gor_model.specs.Windows.{window, window_in}
 use Rattle.gor_model.specs.Shares.{SeriesShare}
+use Rattle.gor_model.proofs.Lists.{all_weaker, all_joined, all_last}
 use Rattle.gor_block.specs.PointBlock.{PointBlock, IsBlock, followed, point_room, MayFollow}
 use Rattle.gor_cell.specs.declared.cell_put.CellPut.TheVariants.{Stored, NotLater, Closed}
 use Rattle.gor_cell.specs.Packed.{Packed, IsPacked, IsLater, AreSealed, blocks_of, points_of, points_in, standing, last_time}
 use Rattle.gor_cell.specs.Stands.{IsCoded, StandsFor, Stands}
 use Rattle.gor_cell.specs.Steps.{put_over, put_behind, put_answer, with_put, after_put, IsOpen}
 use Rattle.gor_cell.specs.Blocks.{AreLater, MayCome, with_last}
-use Rattle.gor_cell.proofs.Ends.{each_map, each_both, each_at}
 use Rattle.gor_cell.proofs.Points.{points_both, later_last_some, last_point, each_with_last, rising_with_last, points_followed, last_with_last}
 
 -- ---- where a put is stored
@@ -62,7 +62,7 @@ coded_sealed floor w (None ∷ places) a = coded_sealed floor (w + 1) places a
 coded_sealed floor w (Some b ∷ places) a = (a.0.block.code, coded_sealed floor (w + 1) places a.1)
 
 pub coded_cell : (s : Packed) → IsPacked s → AllByRecursion IsCoded (blocks_of s)
-coded_cell s p = each_both IsCoded (standing s.sealed.items) s.later (coded_sealed s.floor s.sealed.first s.sealed.items p.sealed) (each_map (IsLater s.floor) IsCoded s.later (λ b l. l.block.code) p.later)
+coded_cell s p = all_joined IsCoded (standing s.sealed.items) s.later (coded_sealed s.floor s.sealed.first s.sealed.items p.sealed) (all_weaker (IsLater s.floor) IsCoded s.later (λ b l. l.block.code) p.later)
 
 -- ---- the share stays where the points do
 
@@ -107,7 +107,7 @@ may_follow s time word p e open_at = by (last_of s.later) refl
     by None g = tt
     by (Some b) g =
         let here = subst (λ o. IsSomeAnd o (λ (x : PointBlock). (x.window ≡ window time) × (point_room ≤ x.room))) g open_at in
-        let is = each_at (IsLater s.floor) s.later b p.later g in
+        let is = all_last (IsLater s.floor) s.later p.later b g in
         record {
           inside = subst (λ u. window_in u time ≡ b.window) (sym is.unit) (sym here.0);
           later = later_by b (last_of b.points) g refl;
@@ -131,7 +131,7 @@ later_followed s time word p low sound = record {
         record {
           unit = l.unit;
           block = subst (λ o. IfSome o IsBlock) last sound;
-          reached = each_both (λ (x : Point). s.floor ≤ x.time) b.points (q ∷ []) l.reached (low, tt);
+          reached = all_joined (λ (x : Point). s.floor ≤ x.time) b.points (q ∷ []) l.reached (low, tt);
         }
 
 pub put_stands : (s : Packed) (time word : ℕ) (share : SeriesShare) → IsPacked s → put_over s.floor (points_of s) time ≡ Stored → 1 ≤ length s.later

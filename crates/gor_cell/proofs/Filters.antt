@@ -6,21 +6,13 @@ use Rattle.std.specs.List.{AllByRecursion}
 use Rattle.gor_model.specs.declared.point.Point.{Point}
 use Rattle.gor_model.specs.PlainMap.{last_of}
 use Rattle.gor_model.specs.Windows.{window, window_in, store_unit}
+use Rattle.gor_model.proofs.Lists.{filter_all, filter_none, all_places, all_weaker, all_joined}
 use Rattle.gor_block.specs.PointBlock.{PointBlock, IsBlock}
 use Rattle.gor_cell.specs.Packed.{Packed, IsPacked, IsLater, AreSealed, blocks_of, points_in, standing}
 use Rattle.gor_cell.specs.Steps.{in_windows}
 use Rattle.gor_cell.specs.Blocks.{bare, is_chosen, chosen, has_point}
-use Rattle.gor_cell.proofs.Ends.{each, each_map, each_both}
 
 -- ---- filters
-
-pub filter_all : {A : Type 0} (p : A → Bool) (xs : List A) → AllByRecursion (λ x. p x ≡ true) xs → filter p xs ≡ xs
-filter_all p [] a = refl
-filter_all p (x ∷ xs) a = rw a.0 (ap (λ l. x ∷ l) (filter_all p xs a.1))
-
-pub filter_none : {A : Type 0} (p : A → Bool) (xs : List A) → AllByRecursion (λ x. p x ≡ false) xs → filter p xs ≡ []
-filter_none p [] a = refl
-filter_none p (x ∷ xs) a = rw a.0 (filter_none p xs a.1)
 
 pub filter_passes : {A : Type 0} (p : A → Bool) (xs : List A) → AllByRecursion (λ x. p x ≡ true) (filter p xs)
 filter_passes p [] = tt
@@ -29,14 +21,6 @@ filter_passes p (x ∷ xs) = by (filter_passes p xs) (p x) refl
     by : AllByRecursion (λ y. p y ≡ true) (filter p xs) → (t : Bool) → p x ≡ t → AllByRecursion (λ y. p y ≡ true) (filter p (x ∷ xs))
     by rest true e = subst (λ t. AllByRecursion (λ y. p y ≡ true) (if t then x ∷ filter p xs else filter p xs)) (sym e) (e, rest)
     by rest false e = subst (λ t. AllByRecursion (λ y. p y ≡ true) (if t then x ∷ filter p xs else filter p xs)) (sym e) rest
-
-pub each_filter : {A : Type 0} (P : A → Type 0) (p : A → Bool) (xs : List A) → AllByRecursion P xs → AllByRecursion P (filter p xs)
-each_filter P p [] a = tt
-each_filter P p (x ∷ xs) a = by (each_filter P p xs a.1) (p x)
-  where
-    by : AllByRecursion P (filter p xs) → (t : Bool) → AllByRecursion P (if t then x ∷ filter p xs else filter p xs)
-    by rest true = (a.0, rest)
-    by rest false = rest
 
 -- a filter of a filter is one by both tests
 pub filter_twice : {A : Type 0} (p q r : A → Bool) (xs : List A) → AllByRecursion (λ x. (q x && p x) ≡ r x) xs → filter p (filter q xs) ≡ filter r xs
@@ -60,9 +44,9 @@ right_sealed floor w (None ∷ places) a = right_sealed floor (w + 1) places a
 right_sealed floor w (Some b ∷ places) a = (record { unit = a.0.unit; block = a.0.block }, right_sealed floor (w + 1) places a.1)
 
 pub right_cell : (s : Packed) → IsPacked s → AllByRecursion IsRight (blocks_of s)
-right_cell s p = each_both IsRight (standing s.sealed.items) s.later
+right_cell s p = all_joined IsRight (standing s.sealed.items) s.later
     (right_sealed s.floor s.sealed.first s.sealed.items p.sealed)
-    (each_map (IsLater s.floor) IsRight s.later (λ b l. record { unit = l.unit; block = l.block }) p.later)
+    (all_weaker (IsLater s.floor) IsRight s.later (λ b l. record { unit = l.unit; block = l.block }) p.later)
 
 -- each point of a block lies in its window
 pub inside : (b : PointBlock) → IsRight b → AllByRecursion (λ p. window p.time ≡ b.window) b.points
@@ -72,7 +56,7 @@ inside b r = by b.points refl
     by [] e = subst (AllByRecursion (λ p. window p.time ≡ b.window)) (sym e) tt
     by (q ∷ ps) e =
         let some : 1 ≤ length b.points = subst (λ (l : List Point). 1 ≤ length l) (sym e) (omega arith) in
-        subst (λ u. AllByRecursion (λ (p : Point). window_in u p.time ≡ b.window) b.points) r.unit (each (λ (p : Point). window_in b.unit p.time ≡ b.window) b.points ((r.block.code some).inside))
+        subst (λ u. AllByRecursion (λ (p : Point). window_in u p.time ≡ b.window) b.points) r.unit (all_places (λ (p : Point). window_in b.unit p.time ≡ b.window) b.points ((r.block.code some).inside))
 
 -- ---- points of blocks that pass
 
@@ -97,8 +81,8 @@ pub agrees_by : (test : ℕ → Bool) (tp : Point → Bool) (b : PointBlock) →
 agrees_by test tp b r same = record { is = by (test b.window) refl }
   where
     by : (t : Bool) → test b.window ≡ t → filter tp b.points ≡ (if test b.window then b.points else [])
-    by true e = rw e (filter_all tp b.points (each_map (λ p. window p.time ≡ b.window) (λ p. tp p ≡ true) b.points (λ p w. same p w ∙ e) (inside b r)))
-    by false e = rw e (filter_none tp b.points (each_map (λ p. window p.time ≡ b.window) (λ p. tp p ≡ false) b.points (λ p w. same p w ∙ e) (inside b r)))
+    by true e = rw e (filter_all tp b.points (all_weaker (λ p. window p.time ≡ b.window) (λ p. tp p ≡ true) b.points (λ p w. same p w ∙ e) (inside b r)))
+    by false e = rw e (filter_none tp b.points (all_weaker (λ p. window p.time ≡ b.window) (λ p. tp p ≡ false) b.points (λ p w. same p w ∙ e) (inside b r)))
 
 -- ---- the blocks that a copy takes
 
@@ -121,7 +105,7 @@ agrees_chosen first last b r = record { is = by (nat_le first b.window && nat_le
     by false u e f = plain ∙ (ap (λ x. if x then b.points else []) e ∙ sym (ap (λ m. if m && has_point b then b.points else []) e))
 
 pub points_chosen : (first last : ℕ) (blocks : List PointBlock) → AllByRecursion IsRight blocks → points_in (chosen first last blocks) ≡ filter (in_windows first last) (points_in blocks)
-points_chosen first last blocks r = points_filter (in_windows first last) (is_chosen first last) blocks (each_map IsRight (Agrees (in_windows first last) (is_chosen first last)) blocks (agrees_chosen first last) r)
+points_chosen first last blocks r = points_filter (in_windows first last) (is_chosen first last) blocks (all_weaker IsRight (Agrees (in_windows first last) (is_chosen first last)) blocks (agrees_chosen first last) r)
 
 -- ---- without their room
 

@@ -6,12 +6,12 @@ use Rattle.std.specs.List.{AllByRecursion}
 use Rattle.gor_model.specs.declared.point.Point.{Point}
 use Rattle.gor_model.specs.PlainMap.{last_of}
 use Rattle.gor_model.specs.Windows.{window, store_unit, window_in, last_window}
+use Rattle.gor_model.proofs.Lists.{last_push, all_places, all_last, all_front, all_joined}
 use Rattle.gor_block.specs.PointBlock.{PointBlock, IsBlock, point_room}
 use Rattle.std.proofs.lemmas.Bool.{eqb-false, eqb-true}
 use Rattle.gor_cell.specs.Packed.{points_in, last_time, Rising, IsLater}
 use Rattle.gor_cell.specs.Steps.{IsOpen}
 use Rattle.gor_cell.specs.Blocks.{with_last, roomy, Trimmed, AreLater, MayCome, lacks_points, lies_in}
-use Rattle.gor_cell.proofs.Ends.{last_snoc, each, each_at, each_front, each_both}
 use Rattle.gor_cell.proofs.Points.{points_both, last_point, points_with_last, each_with_last, rising_with_last, last_with_last}
 
 -- ---- rising windows
@@ -52,7 +52,7 @@ trim_one old xs b e t = record {
 pub trim_pop : (old xs ys : List PointBlock) (o : Option PointBlock) → Trimmed old xs → xs ≡ ys ++ option_to_list o → lacks_points (last_of xs) ≡ true → Trimmed old ys
 trim_pop old xs ys None t e lacks = subst (Trimmed old) (e ∙ append-nil ys) t
 trim_pop old xs ys (Some b) t e lacks =
-    let last : last_of xs ≡ Some b = ap last_of e ∙ last_snoc ys b in
+    let last : last_of xs ≡ Some b = ap last_of e ∙ last_push ys b in
     trim_one old ys b (no_points b.points (ap lacks_points (sym last) ∙ lacks)) (subst (Trimmed old) e t)
   where
     no_points : (ps : List Point) → not (is_some (last_of ps)) ≡ true → ps ≡ []
@@ -65,7 +65,7 @@ trim_points old new t = sym (ap points_in t.all ∙ (points_both new t.back ∙ 
 pub trim_later : (floor : ℕ) (old new : List PointBlock) → Trimmed old new → AreLater floor old → AreLater floor new
 trim_later floor old new t a =
     let all : AreLater floor (new ++ t.back) = subst (AreLater floor) t.all a in
-    record { blocks = each_front (IsLater floor) new t.back all.blocks; rising = rising_front (window floor) new t.back all.rising }
+    record { blocks = all_front (IsLater floor) new t.back all.blocks; rising = rising_front (window floor) new t.back all.rising }
 
 -- ---- room made
 
@@ -73,7 +73,7 @@ abbrev pub fresh : ℕ → PointBlock
 fresh w = record { unit = store_unit; window = w; points = []; room = point_room }
 
 pub open_added : (time w : ℕ) (xs : List PointBlock) → w ≡ window time → IsOpen time (xs ++ fresh w ∷ [])
-open_added time w xs e = subst (λ o. IsSomeAnd o (λ b. (b.window ≡ window time) × (point_room ≤ b.room))) (sym (last_snoc xs (fresh w))) (e, omega arith)
+open_added time w xs e = subst (λ o. IsSomeAnd o (λ b. (b.window ≡ window time) × (point_room ≤ b.room))) (sym (last_push xs (fresh w))) (e, omega arith)
 
 pub open_reserved : (time w : ℕ) (xs : List PointBlock) → lies_in w (last_of xs) ≡ true → w ≡ window time → IsOpen time (with_last roomy xs)
 open_reserved time w xs lies e =
@@ -96,7 +96,7 @@ later_reserved floor xs a = record {
 pub window_of_last : (b : PointBlock) (p : Point) → IsBlock b → b.unit ≡ store_unit → last_of b.points ≡ Some p → window p.time ≡ b.window
 window_of_last b p is u e =
     let code = is.code (some b.points e) in
-    subst (λ v. window_in v p.time ≡ b.window) u (each_at (λ (q : Point). window_in b.unit q.time ≡ b.window) b.points p (each (λ (q : Point). window_in b.unit q.time ≡ b.window) b.points code.inside) e)
+    subst (λ v. window_in v p.time ≡ b.window) u (all_last (λ (q : Point). window_in b.unit q.time ≡ b.window) b.points (all_places (λ (q : Point). window_in b.unit q.time ≡ b.window) b.points code.inside) p e)
   where
     some : (ps : List Point) → last_of ps ≡ Some p → 1 ≤ length ps
     some [] h = cc
@@ -110,7 +110,7 @@ before_window floor time w xs full lies e come all = by (last_of xs) refl
     full_last : (b : PointBlock) (o : Option Point) → last_of b.points ≡ o → last_of xs ≡ Some b → b.window < w
     full_last b None h at = let bad : lacks_points (Some b) ≡ true = ap (λ (q : Option Point). not (is_some q)) h in cc (sym (ap lacks_points at) ∙ full, bad)
     full_last b (Some p) h at =
-        let is = each_at (IsLater floor) xs b all at in
+        let is = all_last (IsLater floor) xs all b at in
         let win : window p.time ≡ b.window = window_of_last b p is.block is.unit h in
         let time_of : last_time (points_in xs) ≡ Some p.time = ap (option_map (λ (q : Point). q.time)) (last_point xs b at (some b.points h) ∙ h) in
         let behind : p.time < time = subst (λ o. IfSome o (λ last. last < time)) time_of come.behind in
@@ -127,7 +127,7 @@ before_window floor time w xs full lies e come all = by (last_of xs) refl
 
 pub later_added : (floor time w : ℕ) (xs : List PointBlock) → lacks_points (last_of xs) ≡ false → lies_in w (last_of xs) ≡ false → w ≡ window time → w ≤ last_window → MayCome floor time xs → AreLater floor xs → AreLater floor (xs ++ fresh w ∷ [])
 later_added floor time w xs full lies e limit come a = record {
-  blocks = each_both (IsLater floor) xs (fresh w ∷ []) a.blocks (record { unit = refl; block = record { limit = limit; words = λ k d h. absurd (omega arith); code = λ h. absurd (omega arith) }; reached = tt }, tt);
+  blocks = all_joined (IsLater floor) xs (fresh w ∷ []) a.blocks (record { unit = refl; block = record { limit = limit; words = λ k d h. absurd (omega arith); code = λ h. absurd (omega arith) }; reached = tt }, tt);
   rising = rising_snoc (window floor) xs (fresh w) a.rising reach (before_window floor time w xs full lies e come a.blocks);
 }
   where

@@ -1,4 +1,3 @@
-pub mod Ends
 pub mod Points
 pub mod Later
 pub mod Copies

@@ -3,10 +3,10 @@ use Rattle.std.proofs.Common.{◌≡◌, ℕ, ◌+◌, ◌<◌, ◌≤◌, List,
 use Rattle.std.proofs.lemmas.Bool.{le-leb, lt-leb}
 use Rattle.std.specs.Prelude.{nat_le, Bool, true, false, if◌then◌else◌}
 use Rattle.std.specs.List.{AllByRecursion}
+use Rattle.gor_model.proofs.Lists.{all_joined}
 use Rattle.gor_block.specs.PointBlock.{PointBlock}
 use Rattle.gor_ring.specs.Places.{Places, with_item}
 use Rattle.gor_cell.specs.Blocks.{leading, IsLeading, with_block, with_blocks}
-use Rattle.gor_cell.proofs.Ends.{each_both}
 
 -- so many blocks of the windows up to one have been counted, and these are left
 pub record Counted (w : ℕ) (all rest : List PointBlock) (count : ℕ) : Type 0 where
@@ -28,7 +28,7 @@ counted_next w all rest b count c h =
       are = c.are ∙ sym (append_assoc c.front (b ∷ []) rest);
       many = ap (λ n. n + 1) c.many ∙ sym (length-append c.front (b ∷ []));
       leads = omega arith;
-      windows = each_both (λ (x : PointBlock). x.window ≤ w) c.front (b ∷ []) c.windows (h, tt);
+      windows = all_joined (λ (x : PointBlock). x.window ≤ w) c.front (b ∷ []) c.windows (h, tt);
     }
 
 take_front : (xs ys : List PointBlock) → take (length xs) (xs ++ ys) ≡ xs

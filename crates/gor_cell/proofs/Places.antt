@@ -5,13 +5,12 @@ use Rattle.std.proofs.lemmas.Bool.{le-leb, lt-leb, leb-true, leb-false}
 use Rattle.std.specs.Prelude.{filter, nat_le, min, replicate, slice_set, if◌then◌else◌}
 use Rattle.std.specs.List.{AllByRecursion}
 use Rattle.gor_model.specs.Windows.{window_length, store_unit, per}
+use Rattle.gor_model.proofs.Lists.{all_weaker, all_joined, filter_all}
 use Rattle.gor_block.specs.PointBlock.{PointBlock}
 use Rattle.gor_ring.specs.Places.{Places, with_item, shifted, advanced}
 use Rattle.gor_cell.specs.Packed.{IsSealed, AreSealed, Rising, standing}
 use Rattle.gor_cell.specs.Blocks.{with_blocks}
-use Rattle.gor_cell.proofs.Ends.{each_map, each_both}
 use Rattle.gor_cell.proofs.Points.{standing_both}
-use Rattle.gor_cell.proofs.Filters.{filter_all}
 use Rattle.gor_cell.proofs.Rises.{rising_each, rising_standing}
 
 -- ---- places with no block
@@ -53,7 +52,7 @@ sealed_raise floor raised w (Some b ∷ places) up day a =
 standing_drop : (floor w n : ℕ) (places : List (Option PointBlock)) → AreSealed floor w places → filter (λ b. nat_le (w + n) b.window) (standing places) ≡ standing (drop n places)
 standing_drop floor w zero places a =
     filter_all (λ (b : PointBlock). nat_le (w + 0) b.window) (standing places)
-    (each_map (λ (b : PointBlock). w ≤ b.window) (λ b. nat_le (w + 0) b.window ≡ true) (standing places) (λ b h. le-leb (w + 0) b.window (omega arith)) (rising_each w (standing places) (rising_standing floor w places a)))
+    (all_weaker (λ (b : PointBlock). w ≤ b.window) (λ b. nat_le (w + 0) b.window ≡ true) (standing places) (λ b h. le-leb (w + 0) b.window (omega arith)) (rising_each w (standing places) (rising_standing floor w places a)))
 standing_drop floor w (suc n) [] a = refl
 standing_drop floor w (suc n) (None ∷ places) a =
     let e : w + 1 + n ≡ w + suc n = omega arith in
@@ -147,14 +146,14 @@ pub record Filled (floor : ℕ) (front : List PointBlock) (ring new : Places Poi
   pub all : standing new.items ≡ standing ring.items ++ filter (λ b. nat_le ring.first b.window) front
 
 below_next : (low : ℕ) (b : PointBlock) (xs : List PointBlock) → low ≤ b.window → AllByRecursion (λ c. c.window < low) xs → AllByRecursion (λ c. c.window < b.window + 1) xs
-below_next low b xs h all = each_map (λ (c : PointBlock). c.window < low) (λ c. c.window < b.window + 1) xs (λ c u. omega arith) all
+below_next low b xs h all = all_weaker (λ (c : PointBlock). c.window < low) (λ c. c.window < b.window + 1) xs (λ c u. omega arith) all
 
 taken : (floor low : ℕ) (b : PointBlock) (front : List PointBlock) (ring : Places PointBlock) → Takes floor low (b ∷ front) ring → ring.first ≤ b.window → Takes floor (b.window + 1) front (with_item b.window b ring)
 taken floor low b front ring t h = record {
   twelve = length-set ring.items n (Some b) ∙ t.twelve;
   sealed = sealed_set floor ring.first n ring.items b t.sealed (subst (λ v. IsSealed floor v b) (sym e) (t.seals.0 h));
   below = subst (AllByRecursion (λ (c : PointBlock). c.window < b.window + 1)) (sym (standing_set floor ring.first n ring.items b t.sealed under within))
-      (each_both (λ (c : PointBlock). c.window < b.window + 1) (standing ring.items) (b ∷ []) (below_next low b (standing ring.items) t.rising.0 t.below) (omega arith, tt));
+      (all_joined (λ (c : PointBlock). c.window < b.window + 1) (standing ring.items) (b ∷ []) (below_next low b (standing ring.items) t.rising.0 t.below) (omega arith, tt));
   rising = t.rising.1;
   fits = t.fits.1;
   seals = t.seals.1;
@@ -167,7 +166,7 @@ taken floor low b front ring t h = record {
     e = omega arith
 
     under : AllByRecursion (λ c. c.window < ring.first + n) (standing ring.items)
-    under = let reach = t.rising.0 in each_map (λ (c : PointBlock). c.window < low) (λ c. c.window < ring.first + n) (standing ring.items) (λ c u. omega arith) t.below
+    under = let reach = t.rising.0 in all_weaker (λ (c : PointBlock). c.window < low) (λ c. c.window < ring.first + n) (standing ring.items) (λ c u. omega arith) t.below
 
     within : n < length ring.items
     within = let twelve = t.twelve in let fits = t.fits.0 in omega arith
@@ -177,7 +176,7 @@ one_more : (floor low : ℕ) (b : PointBlock) (front : List PointBlock) (ring : 
 one_more floor low b front ring t h = standing_set floor ring.first (b.window - ring.first) ring.items b t.sealed under within
   where
     under : AllByRecursion (λ c. c.window < ring.first + (b.window - ring.first)) (standing ring.items)
-    under = let reach = t.rising.0 in each_map (λ (c : PointBlock). c.window < low) (λ c. c.window < ring.first + (b.window - ring.first)) (standing ring.items) (λ c u. omega arith) t.below
+    under = let reach = t.rising.0 in all_weaker (λ (c : PointBlock). c.window < low) (λ c. c.window < ring.first + (b.window - ring.first)) (standing ring.items) (λ c u. omega arith) t.below
 
     within : b.window - ring.first < length ring.items
     within = let twelve = t.twelve in let fits = t.fits.0 in omega arith

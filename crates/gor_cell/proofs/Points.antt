@@ -7,10 +7,10 @@ use Rattle.std.specs.List.{AllByRecursion}
 use Rattle.std.specs.Option.{option_or}
 use Rattle.gor_model.specs.declared.point.Point.{Point}
 use Rattle.gor_model.specs.PlainMap.{last_of}
+use Rattle.gor_model.proofs.Lists.{last_joined, get_last}
 use Rattle.gor_block.specs.PointBlock.{PointBlock, followed}
 use Rattle.gor_cell.specs.Packed.{points_in, standing, last_time, Rising}
 use Rattle.gor_cell.specs.Blocks.{with_last, roomy}
-use Rattle.gor_cell.proofs.Ends.{last_behind, get_last}
 
 pub points_both : (xs ys : List PointBlock) → points_in (xs ++ ys) ≡ points_in xs ++ points_in ys
 points_both [] ys = refl
@@ -26,7 +26,7 @@ or_map None p = refl
 or_map (Some x) p = refl
 
 pub time_behind : (ps qs : List Point) → last_time (ps ++ qs) ≡ option_or (last_time qs) (last_time ps)
-time_behind ps qs = ap (λ o. option_map (λ (q : Point). q.time) o) (last_behind ps qs) ∙ or_map (last_of qs) (last_of ps)
+time_behind ps qs = ap (λ o. option_map (λ (q : Point). q.time) o) (last_joined ps qs) ∙ or_map (last_of qs) (last_of ps)
 
 -- the last time of some blocks with one more behind
 pub time_snoc : (xs : List PointBlock) (b : PointBlock) → last_time (points_in (xs ++ b ∷ [])) ≡ option_or (last_time b.points) (last_time (points_in xs))
@@ -62,7 +62,7 @@ pub last_point : (xs : List PointBlock) (b : PointBlock) → last_of xs ≡ Some
 last_point [] b e h = cc
 last_point (x ∷ []) b e h = let same : x ≡ b = (cc) in ap last_of (append-nil x.points) ∙ ap (λ (y : PointBlock). last_of y.points) same
 last_point (x ∷ y ∷ ys) b e h =
-    last_behind x.points (points_in (y ∷ ys))
+    last_joined x.points (points_in (y ∷ ys))
     ∙ (ap (λ o. option_or o (last_of x.points)) (last_point (y ∷ ys) b e h) ∙ some_or b.points (last_of x.points) h)
   where
     some_or : (ps : List Point) (o : Option Point) → 1 ≤ length ps → option_or (last_of ps) o ≡ last_of ps

@@ -1,5 +1,5 @@
 -- What a seal of a window makes of a cell.
-use Rattle.std.proofs.Common.{◌*◌, ◌≡◌, ℕ, ◌+◌, ◌-◌, ◌<◌, ◌≤◌, List, [], ◌∷◌, ◌++◌, length, take, drop, refl, ap, ap₂, sym, ◌∙◌, subst, arith, append_assoc, Bool, true, false}
+use Rattle.std.proofs.Common.{◌*◌, ◌≡◌, ℕ, ◌+◌, ◌-◌, ◌<◌, ◌≤◌, List, [], ◌++◌, length, take, drop, refl, ap, ap₂, sym, ◌∙◌, subst, arith, append_assoc, Bool, true, false}
 use Rattle.std.proofs.lemmas.List.{take-append-drop}
 use Rattle.std.proofs.lemmas.List.Elements.{filter-append}
 use Rattle.std.proofs.lemmas.Bool.{le-leb, lt-leb, leb-true, leb-false}
@@ -8,23 +8,19 @@ use Rattle.std.specs.List.{AllByRecursion}
 use Rattle.gor_model.specs.declared.point.Point.{Point}
 use Rattle.gor_model.specs.Windows.{window, window_end, kept, is_kept, per, store_unit}
 use Rattle.gor_model.specs.Shares.{SeriesShare}
+use Rattle.gor_model.proofs.Lists.{all_paired, all_weaker, all_front, all_behind, filter_all, all_filter, all_of}
 use Rattle.gor_block.specs.PointBlock.{PointBlock}
 use Rattle.gor_ring.specs.Places.{advanced}
 use Rattle.gor_cell.specs.Packed.{Packed, IsPacked, IsLater, IsSealed, Rising, blocks_of, points_of, points_in, standing}
 use Rattle.gor_cell.specs.Stands.{StandsFor}
 use Rattle.gor_cell.specs.Steps.{after_seal, in_windows, IsPiece, ArePieces}
 use Rattle.gor_cell.specs.Blocks.{chosen, is_chosen, leading, with_blocks, AddsCopies}
-use Rattle.gor_cell.proofs.Ends.{each_map, each_front, each_back}
 use Rattle.gor_cell.proofs.Later.{rising_front}
 use Rattle.gor_cell.proofs.Cells.{coded_cell}
-use Rattle.gor_cell.proofs.Filters.{filter_all, filter_passes, each_filter, filter_twice, IsRight, right_cell, inside, points_filter, agrees_by, Agrees, points_chosen, points_copy, each_copy}
-use Rattle.gor_cell.proofs.Ranges.{chosen_windows, chosen_parts, each_of}
+use Rattle.gor_cell.proofs.Filters.{filter_passes, filter_twice, IsRight, right_cell, inside, points_filter, agrees_by, Agrees, points_chosen, points_copy, each_copy}
+use Rattle.gor_cell.proofs.Ranges.{chosen_windows, chosen_parts}
 use Rattle.gor_cell.proofs.Rises.{rising_each, rising_from, rising_filter, rising_cell, rising_copy, below_floor, leading_rest, leading_front}
 use Rattle.gor_cell.proofs.Places.{advanced_sealed, advanced_standing, advanced_twelve, sealed_raise, Takes, Filled, filled}
-
-each_zip : {A : Type 0} (P Q R : A → Type 0) (xs : List A) → ((x : A) → P x → Q x → R x) → AllByRecursion P xs → AllByRecursion Q xs → AllByRecursion R xs
-each_zip P Q R [] f a b = tt
-each_zip P Q R (x ∷ xs) f a b = (f x a.0 b.0, each_zip P Q R xs f a.1 b.1)
 
 and_more : (x y z : Bool) → (x && (y && z)) ≡ (x && y && z)
 and_more true y z = refl
@@ -82,11 +78,11 @@ module _ (s : Packed) (w : ℕ) (may : MaySeal s w) where
     twelve = advanced_twelve (w - 11) s.sealed may.twelve;
     sealed = let above = may.above in sealed_raise s.floor (window_end w) (w - 11) (advanced (w - 11) s.sealed).items (omega arith) (omega arith) (advanced_sealed s.floor (w - 11) s.sealed may.twelve first_low may.is.sealed);
     below = subst (AllByRecursion (λ (c : PointBlock). c.window < window s.floor)) (sym (advanced_standing s.floor (w - 11) s.sealed may.twelve first_low may.is.sealed))
-        (each_filter (λ (c : PointBlock). c.window < window s.floor) (λ b. nat_le (w - 11) b.window) (standing s.sealed.items) (below_floor s.floor s.sealed.first s.sealed.items may.is.sealed));
+        (all_filter (λ (c : PointBlock). c.window < window s.floor) (λ b. nat_le (w - 11) b.window) (standing s.sealed.items) (below_floor s.floor s.sealed.first s.sealed.items may.is.sealed));
     rising = rising_front (window s.floor) front rest (subst (Rising (window s.floor)) (sym whole) may.is.rising);
-    fits = each_map (λ (b : PointBlock). b.window ≤ w) (λ b. b.window < w - 11 + 12) front (λ b h. omega arith) (leading_front w s.later);
-    seals = each_zip (IsLater s.floor) (λ (b : PointBlock). b.window ≤ w) (λ b. w - 11 ≤ b.window → IsSealed (window_end w) b.window b) front seals_block
-        (each_front (IsLater s.floor) front rest (subst (AllByRecursion (IsLater s.floor)) (sym whole) may.is.later)) (leading_front w s.later);
+    fits = all_weaker (λ (b : PointBlock). b.window ≤ w) (λ b. b.window < w - 11 + 12) front (λ b h. omega arith) (leading_front w s.later);
+    seals = all_paired (IsLater s.floor) (λ (b : PointBlock). b.window ≤ w) (λ b. w - 11 ≤ b.window → IsSealed (window_end w) b.window b) front seals_block
+        (all_front (IsLater s.floor) front rest (subst (AllByRecursion (IsLater s.floor)) (sym whole) may.is.later)) (leading_front w s.later);
   }
 
   fill : Filled (window_end w) front (advanced (w - 11) s.sealed) (with_blocks front (advanced (w - 11) s.sealed))
@@ -102,15 +98,15 @@ module _ (s : Packed) (w : ℕ) (may : MaySeal s w) where
   stays_later b l over = record {
     unit = l.unit;
     block = l.block;
-    reached = each_map (λ (p : Point). window p.time ≡ b.window) (λ p. window_end w ≤ p.time) b.points (λ p e. omega arith) (inside b (record { unit = l.unit; block = l.block }));
+    reached = all_weaker (λ (p : Point). window p.time ≡ b.window) (λ p. window_end w ≤ p.time) b.points (λ p e. omega arith) (inside b (record { unit = l.unit; block = l.block }));
   }
 
   pub sealed_packed : IsPacked (sealed_cell s w)
   sealed_packed = record {
     first = let first = fill.first in let e = window_of_end w in omega arith;
     sealed = fill.sealed;
-    later = each_zip (IsLater s.floor) (λ (b : PointBlock). w + 1 ≤ b.window) (IsLater (window_end w)) rest stays_later
-        (each_back (IsLater s.floor) front rest (subst (AllByRecursion (IsLater s.floor)) (sym whole) may.is.later)) rest_over;
+    later = all_paired (IsLater s.floor) (λ (b : PointBlock). w + 1 ≤ b.window) (IsLater (window_end w)) rest stays_later
+        (all_behind (IsLater s.floor) front rest (subst (AllByRecursion (IsLater s.floor)) (sym whole) may.is.later)) rest_over;
     rising = subst (λ n. Rising n rest) (sym (window_of_end w)) rest_rising;
   }
 
@@ -126,7 +122,7 @@ module _ (s : Packed) (w : ℕ) (may : MaySeal s w) where
       ∙ sym (filter-append old_enough (standing s.sealed.items) s.later))))
     where
       rest_all : filter old_enough rest ≡ rest
-      rest_all = filter_all old_enough rest (each_map (λ (b : PointBlock). w + 1 ≤ b.window) (λ b. old_enough b ≡ true) rest (λ b h. le-leb (w - 11) b.window (omega arith)) rest_over)
+      rest_all = filter_all old_enough rest (all_weaker (λ (b : PointBlock). w + 1 ≤ b.window) (λ b. old_enough b ≡ true) rest (λ b h. le-leb (w - 11) b.window (omega arith)) rest_over)
 
   -- a point is kept under the new floor by its window alone
   kept_by_window : (p : Point) (v : ℕ) → window p.time ≡ v → is_kept (window_end w) p ≡ nat_le (w - 11) v
@@ -139,7 +135,7 @@ module _ (s : Packed) (w : ℕ) (may : MaySeal s w) where
   pub sealed_points : points_of (sealed_cell s w) ≡ kept (window_end w) (points_of s)
   sealed_points = ap points_in sealed_blocks
       ∙ points_filter (is_kept (window_end w)) old_enough (blocks_of s)
-      (each_map IsRight (Agrees (is_kept (window_end w)) old_enough) (blocks_of s) (λ b r. agrees_by (nat_le (w - 11)) (is_kept (window_end w)) b r (λ p e. kept_by_window p b.window e)) (right_cell s may.is))
+      (all_weaker IsRight (Agrees (is_kept (window_end w)) old_enough) (blocks_of s) (λ b r. agrees_by (nat_le (w - 11)) (is_kept (window_end w)) b r (λ p e. kept_by_window p b.window e)) (right_cell s may.is))
 
   pub seal_stands : (share : SeriesShare) → StandsFor s share → StandsFor (sealed_cell s w) (after_seal w share)
   seal_stands share st = record {
@@ -172,15 +168,15 @@ module _ (s : Packed) (w : ℕ) (may : MaySeal s w) where
   sealed_pieces first copies e = record {
     rising = rising_copy first copies taken e (rising_from s.sealed.first first taken
         (rising_filter (is_chosen (max first (w - 11)) w) s.sealed.first (blocks_of s) (rising_cell s may.is))
-        (each_map (λ (b : PointBlock). (max first (w - 11) ≤ b.window) × (b.window ≤ w)) (λ b. first ≤ b.window) taken (λ b h. let low = h.0 in omega arith) (chosen_windows (max first (w - 11)) w (blocks_of s))));
+        (all_weaker (λ (b : PointBlock). (max first (w - 11) ≤ b.window) × (b.window ≤ w)) (λ b. first ≤ b.window) taken (λ b h. let low = h.0 in omega arith) (chosen_windows (max first (w - 11)) w (blocks_of s))));
     pieces = each_copy (IsPiece first w) (λ b q. record { unit = q.unit; block = record { limit = q.block.limit; words = q.block.words; code = q.block.code }; some = q.some; from = q.from; to = q.to })
         (λ b q. record { unit = q.unit; block = record { limit = q.block.limit; words = q.block.words; code = q.block.code }; some = q.some; from = q.from; to = q.to }) copies taken e
-        (each_zip IsRight (λ b. is_chosen (max first (w - 11)) w b ≡ true) (IsPiece first w) taken (right_piece first)
-        (each_filter IsRight (is_chosen (max first (w - 11)) w) (blocks_of s) (right_cell s may.is)) (filter_passes (is_chosen (max first (w - 11)) w) (blocks_of s)));
+        (all_paired IsRight (λ b. is_chosen (max first (w - 11)) w b ≡ true) (IsPiece first w) taken (right_piece first)
+        (all_filter IsRight (is_chosen (max first (w - 11)) w) (blocks_of s) (right_cell s may.is)) (filter_passes (is_chosen (max first (w - 11)) w) (blocks_of s)));
     all = points_copy copies taken e ∙ (points_chosen (max first (w - 11)) w (blocks_of s) (right_cell s may.is) ∙ sym
         (ap (filter (in_windows first w)) sealed_points
         ∙ filter_twice (in_windows first w) (is_kept (window_end w)) (in_windows (max first (w - 11)) w) (points_of s)
-        (each_of (λ p. (is_kept (window_end w) p && in_windows first w p) ≡ in_windows (max first (w - 11)) w p) (points_of s) (both_tests first))));
+        (all_of (λ p. (is_kept (window_end w) p && in_windows first w p) ≡ in_windows (max first (w - 11)) w p) (points_of s) (both_tests first))));
   }
     where
       taken : List PointBlock

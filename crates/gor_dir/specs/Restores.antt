@@ -1,14 +1,16 @@
 -- How the directory of a start is built, a row at a time.
-use Rattle.std.specs.Prelude.{◌≡◌, ℕ, List, [], ◌∷◌, Some, filter, if◌then◌else◌, false}
+use Rattle.std.specs.Prelude.{◌≡◌, ℕ, List, [], ◌∷◌, Some, filter, max, if◌then◌else◌, false}
 use Rattle.std.specs.List.{IsDistinct}
 use Rattle.std.specs.List.Sorted.{IsPermutation}
 use Rattle.std.specs.Map.{keys_of}
 use Rattle.std.specs.Str.{bytes_eq}
 use Rattle.gor_model.specs.Names.{key_of}
-use Rattle.gor_model.specs.Shares.{DirectoryShare}
+use Rattle.gor_model.specs.Shares.{DirectoryShare, directory_share}
 use Rattle.gor_model.specs.declared.start.Row.{Row}
 use Rattle.gor_model.specs.declared.start.Start.{Start}
+use Rattle.gor_model.specs.Windows.{window_end}
 use Rattle.gor_dir.specs.Pools.{is_apart}
+use Rattle.gor_dir.specs.Listings.{Listing, Stands}
 
 -- a start with so many slots and no series
 abbrev pub bare_start : ℕ → Start
@@ -28,3 +30,13 @@ directory_restored name slot uid directory = record {
   entry = λ key. if bytes_eq key (key_of name) then Some (record { name = name; slot = slot; uid = uid }) else directory.entry key;
   free = filter (is_apart slot) directory.free;
 }
+
+-- from the directory of a start's first rows to that of the start with one row more, of this name, slot and uid
+abbrev pub RestoresSeries : List ℕ → ℕ → ℕ → Listing → Listing → Type 0
+RestoresSeries name slot uid old new = (before after : Start) (row : Row) → row.name ≡ name → row.slot ≡ slot → row.uid ≡ uid → AddsRow before row after
+    → Stands old (directory_share before []) → Stands new (directory_share after [])
+
+-- from the directory of a start to that of the start with its floor raised to the end of a window
+abbrev pub RaisesStart : ℕ → Listing → Listing → Type 0
+RaisesStart window old new = (start : Start) → Stands old (directory_share start [])
+    → Stands new (directory_share (record start { floor = max start.floor (window_end window) }) [])

@@ -1,16 +1,14 @@
 //! The directory of a shard: which series it has, and which slots are free.
-ghost use Rattle.std.specs.Prelude.{◌≡◌, ◌≤◌, ◌<◌, [], map, length, option_map, slice_get, slice_index, max, IsSome, None, Some, IfOk, OnOk, OnErr};
+ghost use Rattle.std.specs.Prelude.{◌≡◌, ◌≤◌, ◌<◌, [], map, length, option_map, slice_get, slice_index, IsSome, None, Some, IfOk, OnOk, OnErr};
 ghost use Rattle.gor_model.specs.Lists.{EachBefore};
 ghost use Rattle.gor_model.specs.Names.{key_of};
 ghost use Rattle.gor_model.specs.Objects.{Has};
 ghost use Rattle.gor_model.specs.Shares.{Entry, directory_share};
 ghost use Rattle.gor_model.specs.SharesAfter.{directory_begun, directory_without, directory_raised};
 ghost use Rattle.gor_model.specs.Windows.{window_end};
-ghost use Rattle.gor_model.specs.declared.start.Row.{Row};
-ghost use Rattle.gor_model.specs.declared.start.Start.{Start};
 ghost use Rattle.gor_dir.specs.Events.{BeginsSeries, EndsSeries, RaisesFloor, StandsAfter};
 ghost use Rattle.gor_dir.specs.Listings.{Stands, AreAll, shown, row_shown};
-ghost use Rattle.gor_dir.specs.Restores.{AddsRow, bare_start, directory_restored};
+ghost use Rattle.gor_dir.specs.Restores.{bare_start, directory_restored, RestoresSeries, RaisesStart};
 
 use crate::pool::Pool;
 use crate::row::DirRow;
@@ -126,7 +124,7 @@ impl Directory {
         requires absent { (shown self.old).entry (key_of name) ≡ None }
         requires free { Has (shown self.old).free slot }
         ensures restored { OnOk result (shown self.new ≡ directory_restored name slot uid (shown self.old)) }
-        ensures start { OnOk result ((before after : Start) (row : Row) → row.name ≡ name → row.slot ≡ slot → row.uid ≡ uid → AddsRow before row after → Stands self.old (directory_share before []) → Stands self.new (directory_share after [])) }
+        ensures start { OnOk result (RestoresSeries name slot uid self.old self.new) }
         ensures err { OnErr result (shown self.new ≡ shown self.old) }
     {
         self.rows.reserve()?;
@@ -152,7 +150,7 @@ impl Directory {
     pub fn raise_floor(&mut self, window: u32)
         ensures raised { shown self.new ≡ directory_raised (window_end window) (shown self.old) }
         ensures after { StandsAfter self.old self.new (RaisesFloor window) }
-        ensures start { (start : Start) → Stands self.old (directory_share start []) → Stands self.new (directory_share (record start { floor = max start.floor (window_end window) }) []) }
+        ensures start { RaisesStart window self.old self.new }
         ensures room { self.new.spare ≡ self.old.spare }
     {
         self.floor = self.floor.max(end_of(window));

@@ -52,6 +52,10 @@ held_now disk file = disk.held disk.moment file
 abbrev pub IsImageAt : DiskView → ℕ → Contents → Type 0
 IsImageAt disk t image = (file : FileId) → IsImage (disk.held t file) (image file)
 
+-- these are the stable bytes of each file at this moment
+abbrev pub IsStableAt : DiskView → ℕ → Contents → Type 0
+IsStableAt disk t image = (file : FileId) → image file ≡ (disk.held t file).stable
+
 -- a crash at any moment since t, up to now, leaves files that have P
 abbrev pub LeavesSince : ℕ → DiskView → (Contents → Type 0) → Type 0
 LeavesSince t disk P = (k : ℕ) (image : Contents) → t ≤ k → k ≤ disk.moment → IsImageAt disk k image → P image

@@ -1,5 +1,5 @@
 -- A disk in memory: what it held at first, what it holds now, and each call with the bytes that it was given or made stable.
-use Rattle.std.specs.Prelude.{ℕ, suc, ◌+◌, ◌-◌, ◌^◌, min, Bool, if◌then◌else◌, List, [], ◌∷◌, length, take, Vec}
+use Rattle.std.specs.Prelude.{◌≡◌, ℕ, suc, ◌+◌, ◌-◌, ◌^◌, min, Bool, if◌then◌else◌, List, [], ◌∷◌, length, take, Vec}
 use Rattle.std.specs.List.{count_by}
 use Rattle.std.specs.declared.alloc.Global.{Global}
 use Rattle.gor_disk.specs.declared.disk.FileId.{FileId}
@@ -7,7 +7,7 @@ use Rattle.gor_disk.specs.declared.calls.DiskCall.{DiskCall}
 use Rattle.gor_disk.specs.declared.calls.DiskKind.{DiskKind}
 use Rattle.gor_disk.specs.declared.calls.DiskKind.TheVariants.{Len, Read, Write, Cut, Sync}
 use Rattle.gor_disk.specs.declared.files.File.{File}
-use Rattle.gor_disk.specs.Disk.{Held, DiskView, settled, wrote, shortened}
+use Rattle.gor_disk.specs.Disk.{Held, DiskView, IsImage, settled, wrote, shortened}
 use Rattle.gor_disk.specs.Names.{same_file}
 
 -- the bytes of a file; one that isn't there is empty
@@ -28,6 +28,14 @@ effect Read failed at n bytes held = held
 effect Write failed at n bytes held = wrote at n held
 effect Cut failed at n bytes held = shortened n held
 effect Sync failed at n bytes held = if failed then held else settled bytes
+
+-- a file that a crash could leave before a call, and one that it can leave after it
+abbrev pub LeavesImage : DiskCall → List ℕ → List ℕ → List ℕ → Type 0
+LeavesImage call given old new = (held : Held) → IsImage held old → IsImage (effect call.kind call.failed call.at call.len given held) new
+
+-- the stable bytes of a file before a call, and those after it
+abbrev pub LeavesStable : DiskCall → List ℕ → List ℕ → List ℕ → Type 0
+LeavesStable call given old new = (held : Held) → old ≡ held.stable → new ≡ (effect call.kind call.failed call.at call.len given held).stable
 
 abbrev pub step : FileId → DiskCall → List ℕ → Held → Held
 step file call bytes held = if same_file file call.file then effect call.kind call.failed call.at call.len bytes held else held

@@ -1,5 +1,5 @@
 //! Writing into bytes.
-ghost use Rattle.std.specs.Prelude.{◌≡◌, ◌+◌, ◌^◌, ◌<◌, ◌≤◌, ◌++◌, length, vec_len, vec_capacity, IfOk, OnOk, OnErr};
+ghost use Rattle.std.specs.Prelude.{◌≡◌, ◌+◌, ◌^◌, ◌<◌, ◌≤◌, length, vec_len, IfOk, OnOk, OnErr};
 ghost use Rattle.gor_disk.specs.Disk.{overwritten};
 
 use std::alloc::{AllocError, Global};
@@ -33,7 +33,7 @@ pub fn write_over(old: &mut Vec<u8>, at: usize, bytes: &[u8]) -> Result<(), Allo
     }
     old.reserve(bytes.len() - left)?;
     old.truncate(at);
-    push_all(old, bytes);
+    old.extend_from_slice(bytes).unwrap();
     Ok(())
 }
 
@@ -42,14 +42,4 @@ fn put(old: &mut [u8], at: usize, bytes: &[u8])
     ensures { old.new ≡ overwritten at bytes.now old.old }
 {
     old[at..at + bytes.len()].copy_from_slice(bytes);
-}
-
-fn push_all(into: &mut Vec<u8>, bytes: &[u8])
-    requires { vec_len into.old + length bytes.now ≤ vec_capacity into.old }
-    ensures items { into.new.items ≡ into.old.items ++ bytes.now }
-    ensures len { vec_len into.new ≡ vec_len into.old + length bytes.now }
-{
-    for byte in bytes {
-        into.push_reserved(*byte);
-    }
 }

@@ -1,6 +1,6 @@
 //! What a crash may leave of files in memory.
 ghost use Rattle.std.specs.Prelude.{◌≡◌, ◌≢◌, ℕ, ◌+◌, ◌^◌, ◌<◌, ◌≤◌, length, slice_index, IfOk, OnOk};
-ghost use Rattle.gor_disk.specs.Memory.{contents, effect, held_after};
+ghost use Rattle.gor_disk.specs.Memory.{contents, held_after, LeavesImage, LeavesStable};
 ghost use Rattle.gor_disk.specs.Disk.{Held, IsImage, settled, shortened, wrote};
 ghost use Rattle.gor_disk.specs.declared.disk.FileId.{FileId as Name};
 
@@ -92,8 +92,8 @@ fn torn(
     given: &[u8],
     tear: Tear,
 ) -> Result<Vec<u8>, AllocError>
-    ensures image { IfOk result (λ next. (held : Held) → IsImage held old.now → IsImage (effect call.kind call.failed call.at call.len given.now held) next.items) }
-    ensures stable { tear ≡ Tear.Nothing → IfOk result (λ next. (held : Held) → old.now ≡ held.stable → next.items ≡ (effect call.kind call.failed call.at call.len given.now held).stable) }
+    ensures image { IfOk result (λ next. LeavesImage call given.now old.now next.items) }
+    ensures stable { tear ≡ Tear.Nothing → IfOk result (λ next. LeavesStable call given.now old.now next.items) }
 {
     match call.kind {
         DiskKind::Len => Ok(old.to_vec(alloc)?),
@@ -118,8 +118,8 @@ fn advance(
     tear: Tear,
 ) -> Result<(), AllocError>
     ensures others { OnOk result ((f : Name) → f ≢ call.file → contents files.new.items f ≡ contents files.old.items f) }
-    ensures image { OnOk result ((held : Held) → IsImage held (contents files.old.items call.file) → IsImage (effect call.kind call.failed call.at call.len given.now held) (contents files.new.items call.file)) }
-    ensures stable { tear ≡ Tear.Nothing → OnOk result ((held : Held) → contents files.old.items call.file ≡ held.stable → contents files.new.items call.file ≡ (effect call.kind call.failed call.at call.len given.now held).stable) }
+    ensures image { OnOk result (LeavesImage call given.now (contents files.old.items call.file) (contents files.new.items call.file)) }
+    ensures stable { tear ≡ Tear.Nothing → OnOk result (LeavesStable call given.now (contents files.old.items call.file) (contents files.new.items call.file)) }
 {
     let next = torn(alloc, bytes_of(files, call.file), call, given, tear)?;
     set_bytes(files, call.file, next)?;

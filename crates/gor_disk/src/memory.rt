@@ -1,7 +1,7 @@
 //! A disk in memory: what it held at first, what it holds, and each call with the bytes that its images need.
 ghost use Rattle.std.specs.Prelude.{◌≡◌, ◌≢◌, ◌+◌, ◌-◌, ◌^◌, ◌<◌, ◌≤◌, [], ◌∷◌, ◌++◌, length, take, drop, min, vec_len, vec_capacity, is_err, OnOk, OnErr, IfOk};
 ghost use Rattle.gor_disk.specs.Memory.{contents, memory_view, fault_count, IsLook};
-ghost use Rattle.gor_disk.specs.Disk.{IsImage, IsImageAt, NothingPending, Looks, CountsOn, CountsFault, held_now, overwritten, settled};
+ghost use Rattle.gor_disk.specs.Disk.{IsImage, IsImageAt, IsStableAt, NothingPending, Looks, CountsOn, CountsFault, held_now, overwritten, settled};
 ghost use Rattle.gor_disk.specs.declared.disk.FileId.{FileId as Name};
 
 use crate::files::{File, bytes_of, copy_files, cut_file, write_file};
@@ -72,7 +72,7 @@ impl MemoryDisk {
     pub fn image(&self, moment: u64, choice: u64) -> Result<MemoryDisk, AllocError>
         requires { moment ≤ (⟦<MemoryDisk as Disk>⟧.view self.now).moment }
         ensures image { IfOk result (λ disk. IsImageAt (⟦<MemoryDisk as Disk>⟧.view self.now) moment (⟦<MemoryDisk as Disk>⟧.view disk).seen) }
-        ensures stable { choice ≡ 0 → IfOk result (λ disk. (f : Name) → (⟦<MemoryDisk as Disk>⟧.view disk).seen f ≡ ((⟦<MemoryDisk as Disk>⟧.view self.now).held moment f).stable) }
+        ensures stable { choice ≡ 0 → IfOk result (λ disk. IsStableAt (⟦<MemoryDisk as Disk>⟧.view self.now) moment (⟦<MemoryDisk as Disk>⟧.view disk).seen) }
         ensures settled { IfOk result (λ disk. NothingPending (⟦<MemoryDisk as Disk>⟧.view disk)) }
         ensures faults { IfOk result (λ disk. ⟦<MemoryDisk as Disk>⟧.faults disk ≡ 0) }
     {

@@ -35,7 +35,7 @@ one_made old new v w e n before m after lane =
 stands_on : (H K : History) (e : Numbered) → IsBeginning H K → StandsIn H e → StandsIn K e
 stands_on H K e begins s = (s.0, beginning_trans (e.1 ∷ s.0) H K s.1 begins, s.2)
 
-all_on : (H K : History) (events : List Numbered) → IsBeginning H K → AllByRecursion (StandsIn H) events → AllByRecursion (StandsIn K) events
+pub all_on : (H K : History) (events : List Numbered) → IsBeginning H K → AllByRecursion (StandsIn H) events → AllByRecursion (StandsIn K) events
 all_on H K [] begins all = tt
 all_on H K (e ∷ events) begins all = (stands_on H K e begins all.0, all_on H K events begins all.1)
 

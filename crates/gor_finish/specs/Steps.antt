@@ -3,15 +3,17 @@ use Rattle.std.specs.Prelude.{◌≡◌, ℕ, ◌+◌, ◌≤◌, length, false}
 use Rattle.gor_model.specs.Answers.{Legal, is_stopped}
 use Rattle.gor_model.specs.Changes.{History, changes}
 use Rattle.gor_model.specs.Objects.{share_of}
-use Rattle.gor_model.specs.Shares.{OfDevice}
+use Rattle.gor_model.specs.Shares.{OfDevice, JournalShare}
 use Rattle.gor_rule.specs.declared.view.View.{View}
 use Rattle.gor_hall.specs.declared.hall.Hall.{Hall}
 use Rattle.gor_hall.specs.declared.pass.Pass.{Pass}
 use Rattle.gor_hall.specs.Halls.{IsPassOf}
-use Rattle.gor_journal.specs.Bodies.{Kept}
-use Rattle.gor_journal.specs.Stands.{journal_stands}
+use Rattle.gor_journal.specs.Bodies.{Kept, Pending}
+use Rattle.gor_journal.specs.Stands.{journal_stands, Stands, AreOf}
 use Rattle.gor_flush.specs.Devices.{Shown, StandsFor, device_stands}
 use Rattle.gor_flush.specs.Takes.{HasTaken, share_taken, share_done, share_stopped}
+use Rattle.gor_journal.specs.Records.{first_number}
+use Rattle.gor_journal.specs.declared.buffers.Buffers.{Buffers}
 
 -- the pass is still one of this hall, of the same lane, with at most so many events fewer left
 pub record HasLeft {V : Type 0} (hall : Hall V) (n : ℕ) (old new : Pass) : Type 0 where
@@ -57,3 +59,7 @@ pub record HasFailed (v : View) (device : Shown) : Type 0 where
   pub share : share_of v.start 0 v.at ≡ OfDevice (share_taken v.start before)
   pub runs : is_stopped before ≡ false
   pub stands : StandsFor device v.start (share_stopped v.start before)
+
+-- whatever share a journal stands for, the buffers are for its changes
+abbrev pub AreTakenFrom : Pending → Buffers → Type 0
+AreTakenFrom pending buffers = (share : JournalShare) → Stands pending share → AreOf (first_number share) share.buffered buffers

@@ -4,8 +4,7 @@ ghost use Rattle.gor_hall.specs.Calls.{StaysPass};
 ghost use Rattle.gor_hall.specs.Halls.{IsPassOf};
 ghost use Rattle.gor_hall.specs.Passes.{view, held, at, lane_of, left_of_pass};
 ghost use Rattle.gor_journal.specs.Bodies.{AreEmpty};
-ghost use Rattle.gor_journal.specs.Records.{first_number};
-ghost use Rattle.gor_journal.specs.Stands.{Stands as Shows, AreOf};
+ghost use Rattle.gor_journal.specs.Stands.{Stands as Shows};
 ghost use Rattle.gor_model.specs.Answers.{Legal};
 ghost use Rattle.gor_model.specs.Shares.{JournalShare};
 ghost use Rattle.gor_model.specs.SharesAfter.{journal_taken};
@@ -15,7 +14,7 @@ ghost use Rattle.gor_model.specs.Changes.{History, changes};
 ghost use Rattle.gor_model.specs.declared.start.Start.{Start};
 ghost use Rattle.gor_finish.specs.Made.{HasMade};
 ghost use Rattle.gor_finish.specs.Flushes.{take_made, take_refused, done_made, stop_made, IsFlush, Ends};
-ghost use Rattle.gor_finish.specs.Steps.{DeviceStands, JournalStands, Waits, HasWritten, HasFailed, HasLeft, journal_of};
+ghost use Rattle.gor_finish.specs.Steps.{DeviceStands, JournalStands, Waits, HasWritten, HasFailed, HasLeft, journal_of, AreTakenFrom};
 
 use crate::events::{DoneMade, StopMade, TakeMade, TakeRefused};
 use crate::parts::{give_both, give_device, give_journal, take_device, take_journal};
@@ -32,7 +31,7 @@ fn move_changes<D: Disk>(device: &mut Device<D>, journal: &mut Journal) -> u64
     requires { AreEmpty (shown D.tells D.view D.faults device.old).buffers }
     ensures same { with_buffers (shown D.tells D.view D.faults device.old).buffers (shown D.tells D.view D.faults device.new) ≡ shown D.tells D.view D.faults device.old }
     ensures count { result ≡ (shown D.tells D.view D.faults device.new).buffers.changes }
-    ensures taken { (share : JournalShare) → Shows journal.old.pending share → AreOf (first_number share) share.buffered (shown D.tells D.view D.faults device.new).buffers }
+    ensures taken { AreTakenFrom journal.old.pending (shown D.tells D.view D.faults device.new).buffers }
     ensures left { (share : JournalShare) → Shows journal.old.pending share → Shows journal.new.pending (journal_taken share) }
 {
     journal.take(device.buffers());

@@ -9,6 +9,7 @@ use Rattle.gor_model.specs.declared.event.Change.{Change}
 use Rattle.gor_model.specs.declared.start.Start.{Start}
 use Rattle.gor_model.specs.declared.wrong.Misread.{Misread}
 use Rattle.gor_model.specs.PlainMap.{next_change}
+use Rattle.gor_image.proofs.AnyMarks.{range_other}
 use Rattle.gor_marks.specs.declared.mark.Mark.{Mark}
 use Rattle.gor_log.specs.declared.record.LogRecord.{LogRecord}
 use Rattle.gor_log.specs.Spelling.{IsBatch}
@@ -39,10 +40,6 @@ use Rattle.gor_flush.proofs.Tops.{shown_on, top_other, top_own, windows_are, rai
 range_last : (a n : ℕ) → range_with_len a (suc n) ≡ range_with_len a n ++ (a + n) ∷ []
 range_last a zero = ap (λ m. m ∷ []) (let e : a ≡ a + 0 = omega arith in e)
 range_last a (suc n) = ap (λ l. a ∷ l) (range_last (a + 1) n ∙ ap (λ m. range_with_len (a + 1) n ++ m ∷ []) (let e : a + 1 + n ≡ a + suc n = omega arith in e))
-
-range_other : (a n k : ℕ) → a + n ≤ k → AllByRecursion (λ l. l ≢ k) (range_with_len a n)
-range_other a zero k le = tt
-range_other a (suc n) k le = ((λ e. omega arith), range_other (a + 1) n k (omega arith))
 
 -- the remaining logs but for the current one
 abbrev pub earlier_logs : List Mark → List ℕ

@@ -1,9 +1,10 @@
 -- What a list of marks says, by its last mark.
-use Rattle.std.proofs.Common.{◌≡◌, ℕ, ◌+◌, ◌≤◌, List, [], ◌∷◌, ◌++◌, true, false, Option, Some, refl, sym, ap, ◌∙◌, subst, arith, append_assoc, length-append, length, unwrap_or}
+use Rattle.std.proofs.Common.{◌≡◌, ℕ, ◌+◌, ◌≤◌, List, [], ◌∷◌, ◌++◌, true, false, Option, Some, refl, sym, ap, ◌∙◌, subst, arith, append_assoc, length-append, length}
 use Rattle.std.specs.Prelude.{filter, filter_map, nat_lt, nat_eq, not}
 use Rattle.std.proofs.lemmas.List.{append-nil}
 use Rattle.std.proofs.lemmas.List.Elements.{filter_map-append}
 use Rattle.gor_model.specs.PlainMap.{last_of}
+use Rattle.gor_model.proofs.Lists.{last_push}
 use Rattle.gor_marks.specs.declared.mark.Mark.{Mark}
 use Rattle.gor_marks.specs.declared.mark.Mark.TheVariants.{Home, Sealed}
 use Rattle.gor_image.specs.Images.{current, base_of, first_log_of, or_zero, sealed_window, sealed_first_log, live_windows}
@@ -11,10 +12,6 @@ use Rattle.gor_image.specs.Recovery.{is_above}
 use Rattle.gor_image.specs.MarkLists.{MayFollow, AllFollow, AreMarks, AreMarksOrNone}
 use Rattle.gor_flush.specs.Dropping.{AreSomeMarks}
 use Rattle.gor_image.proofs.ReadBack.{unless, not_false}
-
-last_push : {X : Type 0} (xs : List X) (x : X) → last_of (xs ++ x ∷ []) ≡ Some x
-last_push [] x = refl
-last_push {X} (y ∷ xs) x = ap (λ (o : Option X). Some (unwrap_or o y)) (last_push xs x)
 
 module _ (s : List Mark) (w k u f : ℕ) where
   windows_push : filter_map sealed_window (s ++ Sealed w k u f ∷ []) ≡ filter_map sealed_window s ++ w ∷ []

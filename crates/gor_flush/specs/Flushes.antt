@@ -2,7 +2,7 @@
 use Rattle.std.specs.Prelude.{◌≡◌, ◌≢◌, ◌⊎◌, ℕ, ◌≤◌, ◌^◌, List, [], ◌∷◌, ◌++◌, drop, vec_capacity, vec_len, Result, OnOk}
 use Rattle.gor_disk.specs.declared.disk.FileId.{FileId}
 use Rattle.gor_disk.specs.declared.disk.FileId.TheVariants.{Keys, Log}
-use Rattle.gor_disk.specs.Disk.{DiskView, Contents, IsImage, LeavesSince, Runs, held_now}
+use Rattle.gor_disk.specs.Disk.{DiskView, Contents, IsImage, LeavesSince, Runs, held_now, Touches}
 use Rattle.gor_gate.specs.Gates.{Walk, gates, pushed, IsClosed}
 use Rattle.gor_gate.specs.Places.{Place}
 use Rattle.gor_model.specs.declared.event.Change.{Change}
@@ -36,6 +36,14 @@ pub record HasOldOrNew (list : Walk) (items bytes : List ℕ) : Type 0 where
   pub one : (gates bytes ≡ list) ⊎ (gates bytes ≡ with_body items list)
   pub closed : IsClosed bytes
 
+-- the file has the list that it had, with the body of these bytes, if there is one
+abbrev pub HasBody : FileId → List ℕ → DiskView → DiskView → Type 0
+HasBody file items old new = gates (new.seen file) ≡ with_body items (gates (old.seen file))
+
+-- from old to new this file alone is touched: a crash leaves its list as it was, or with the body of these bytes, and the file closed
+abbrev pub AppendsBody : FileId → List ℕ → DiskView → DiskView → Type 0
+AppendsBody file items old new = Touches file (HasOldOrNew (gates (old.seen file)) items) old new
+
 -- both buffers can be appended as they are
 pub record AreBodies (buffers : Buffers) : Type 0 where
   pub key_head : HasHead (vec_len buffers.keys)
@@ -56,6 +64,10 @@ pub record IsWithin (keys log : FileId) (key_items log_items : List ℕ) (old : 
   pub keys_closed : IsClosed (image keys)
   pub log_closed : IsClosed (image log)
   pub others : (f : FileId) → f ≢ keys → f ≢ log → IsImage (held_now old f) (image f)
+
+-- from old to new a crash leaves neither body of these buffers in their files, that of the key list, or both
+abbrev pub AppendsInOrder : FileId → FileId → Buffers → DiskView → DiskView → Type 0
+AppendsInOrder keys log buffers old new = Runs (IsWithin keys log buffers.keys.items buffers.log.items old) old new
 
 -- now a crash and a read see every other file as before the call
 abbrev pub OthersStay : FileId → FileId → DiskView → DiskView → Type 0

@@ -1,10 +1,9 @@
 //! What a flush writes: the key records, and then the batch.
 ghost use Rattle.std.specs.Prelude.{◌≡◌, ◌≢◌, ◌≤◌, [], Ok, IsTrue, OnOk, vec_capacity, vec_len};
-ghost use Rattle.gor_disk.specs.Disk.{CountsFault, Runs, Touches};
-ghost use Rattle.gor_gate.specs.Gates.{gates};
+ghost use Rattle.gor_disk.specs.Disk.{CountsFault};
 ghost use Rattle.gor_gate.specs.Places.{IsEnsured};
 ghost use Rattle.gor_journal.specs.Bodies.{AreEmpty, HasPlace};
-ghost use Rattle.gor_flush.specs.Flushes.{AreBodies, Extends, HasHead, HasOldOrNew, IsWithin, OthersStay, with_body};
+ghost use Rattle.gor_flush.specs.Flushes.{AreBodies, Extends, HasHead, OthersStay, HasBody, AppendsBody, AppendsInOrder};
 
 use gor_disk::{DeviceFault, Disk};
 use gor_gate::{Frame, Gated};
@@ -30,12 +29,12 @@ pub fn append_taken<D: Disk>(
     requires log { IsTrue D.tells → IsEnsured log.old (D.view disk.old) }
     ensures key_file { keys.new.file ≡ keys.old.file }
     ensures log_file { log.new.file ≡ log.old.file }
-    ensures any_moment { IsTrue D.tells → Runs (IsWithin keys.old.file log.old.file buffers.old.keys.items buffers.old.log.items (D.view disk.old)) (D.view disk.old) (D.view disk.new) }
+    ensures any_moment { IsTrue D.tells → AppendsInOrder keys.old.file log.old.file buffers.old (D.view disk.old) (D.view disk.new) }
     ensures others { IsTrue D.tells → OthersStay keys.old.file log.old.file (D.view disk.old) (D.view disk.new) }
     ensures keys { IsTrue D.tells → OnOk result (IsEnsured keys.new (D.view disk.new)) }
     ensures log { IsTrue D.tells → OnOk result (IsEnsured log.new (D.view disk.new)) }
-    ensures has_keys { IsTrue D.tells → OnOk result (gates ((D.view disk.new).seen keys.old.file) ≡ with_body buffers.old.keys.items (gates ((D.view disk.old).seen keys.old.file))) }
-    ensures has_log { IsTrue D.tells → OnOk result (gates ((D.view disk.new).seen log.old.file) ≡ with_body buffers.old.log.items (gates ((D.view disk.old).seen log.old.file))) }
+    ensures has_keys { IsTrue D.tells → OnOk result (HasBody keys.old.file buffers.old.keys.items (D.view disk.old) (D.view disk.new)) }
+    ensures has_log { IsTrue D.tells → OnOk result (HasBody log.old.file buffers.old.log.items (D.view disk.old) (D.view disk.new)) }
     ensures changes { IsTrue D.tells → Extends result keys.old log.old buffers.old (D.view disk.old) (D.view disk.new) }
     ensures emptied { OnOk result (AreEmpty buffers.new) }
     ensures room { (vec_capacity buffers.new.keys ≡ vec_capacity buffers.old.keys) × (vec_capacity buffers.new.log ≡ vec_capacity buffers.old.log) }
@@ -59,9 +58,9 @@ fn append_body<D: Disk>(
     requires place { HasPlace (vec_len bytes.old) (vec_capacity bytes.old) }
     requires ensured { IsTrue D.tells → IsEnsured gated.old (D.view disk.old) }
     ensures file { gated.new.file ≡ gated.old.file }
-    ensures any_moment { IsTrue D.tells → Touches gated.old.file (HasOldOrNew (gates ((D.view disk.old).seen gated.old.file)) bytes.old.items) (D.view disk.old) (D.view disk.new) }
+    ensures any_moment { IsTrue D.tells → AppendsBody gated.old.file bytes.old.items (D.view disk.old) (D.view disk.new) }
     ensures ensured { IsTrue D.tells → OnOk result (IsEnsured gated.new (D.view disk.new)) }
-    ensures appended { IsTrue D.tells → OnOk result (gates ((D.view disk.new).seen gated.old.file) ≡ with_body bytes.old.items (gates ((D.view disk.old).seen gated.old.file))) }
+    ensures appended { IsTrue D.tells → OnOk result (HasBody gated.old.file bytes.old.items (D.view disk.old) (D.view disk.new)) }
     ensures emptied { OnOk result (bytes.new.items ≡ []) }
     ensures room { vec_capacity bytes.new ≡ vec_capacity bytes.old }
     ensures nothing { bytes.old.items ≡ [] → (disk.new ≡ disk.old) × (result ≡ Ok tt) }

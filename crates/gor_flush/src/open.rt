@@ -1,18 +1,17 @@
 //! A device is opened: its disk is recovered, made ready, and becomes a start.
-ghost use Rattle.std.specs.Prelude.{◌≡◌, ◌≤◌, [], IsTrue, IfOk, IfErr, OnOk, MatchResult};
+ghost use Rattle.std.specs.Prelude.{◌≡◌, ◌≤◌, IsTrue, IfOk, IfErr, OnOk, MatchResult};
 ghost use Rattle.gor_disk.specs.Disk.{NothingPending};
-ghost use Rattle.gor_model.specs.Shares.{device_share};
 ghost use Rattle.gor_model.specs.Windows.{slots_of_a_shard};
 ghost use Rattle.gor_flush.specs.Found.{Found};
 ghost use Rattle.gor_image.specs.Images.{current, opens_to};
 ghost use Rattle.gor_recover.specs.Openings.{CountsOpenFault, FaultCounts, IsMet};
 ghost use Rattle.gor_recover.specs.Recovered.{IsRecovered};
 ghost use Rattle.gor_marks.specs.Spelling.{IsHome};
-ghost use Rattle.gor_flush.specs.Devices.{StandsFor, shown};
+ghost use Rattle.gor_flush.specs.Devices.{shown};
 ghost use Rattle.gor_flush.specs.Dropping.{AreDropped};
-ghost use Rattle.gor_flush.specs.Opening.{AreFiles, AreEnsured, HoldsOn, IsOpened, IsUnwritten};
-ghost use Rattle.gor_flush.specs.Preparing.{BeginsAt, device_marks};
-ghost use Rattle.gor_flush.specs.Starts.{start_with};
+ghost use Rattle.gor_flush.specs.Opening.{AreFiles, AreEnsured, HoldsOn, IsUnwritten};
+ghost use Rattle.gor_flush.specs.Preparing.{BeginsAt, device_marks, OpensHome};
+ghost use Rattle.gor_flush.specs.Starts.{StandsAtStart};
 ghost use Rattle.gor_image.specs.DiskSteps.{GoesOn};
 
 use crate::device::Device;
@@ -57,7 +56,7 @@ fn get_ready<D: Disk>(
     ensures ensured { IsTrue D.tells → IfOk result (λ r. AreEnsured r.prepared.files (D.view disk.new)) }
     ensures goes { IsTrue D.tells → GoesOn (D.view disk.old) (D.view disk.new) }
     ensures held { IsTrue D.tells → HoldsOn shards shard ((D.view disk.old).seen) (D.view disk.old) (D.view disk.new) }
-    ensures opened { IsTrue D.tells → IfOk result (λ r. IsOpened shards shard ((D.view disk.old).seen) (device_marks shards shard r.recovered.marks.items) r.recovered.tops.items (D.view disk.new)) }
+    ensures opened { IsTrue D.tells → IfOk result (λ r. OpensHome shards shard r.recovered (D.view disk.old) (D.view disk.new)) }
     ensures rest { IsTrue D.tells → OnOk result (NothingPending (D.view disk.new)) }
     ensures dropped { IsTrue D.tells → IfOk result (λ r. AreDropped (device_marks shards shard r.recovered.marks.items) (D.view disk.new)) }
     ensures err { IsTrue D.tells → IfErr result (IsMet (opens_to ((D.view disk.old).seen) shards shard slots)) }
@@ -92,7 +91,7 @@ impl<D: Disk> Device<D> {
         requires home { IsHome shards shard }
         requires slots { slots ≤ slots_of_a_shard }
         requires pending { IsTrue D.tells → NothingPending (D.view disk) }
-        ensures device { IfOk result (λ r. StandsFor (shown D.tells D.view D.faults r.0) (start_with slots r.1 (shown D.tells D.view D.faults r.0)) (device_share (start_with slots r.1 (shown D.tells D.view D.faults r.0)) [])) }
+        ensures device { IfOk result (λ r. StandsAtStart slots r.1 (shown D.tells D.view D.faults r.0)) }
         ensures begins { IfOk result (λ r. BeginsAt shards shard (D.view disk) (D.faults disk) (shown D.tells D.view D.faults r.0)) }
         ensures recovered { IfOk result (λ r. IsRecovered shards shard slots r.1) }
         ensures found { IsTrue D.tells → IfOk result (λ r. Found shards shard slots ((D.view disk).seen) r.1) }

@@ -7,7 +7,7 @@ ghost use Rattle.gor_image.specs.MarkLists.{AreMarksOrNone};
 ghost use Rattle.gor_marks.specs.Spelling.{InLimits, spelling};
 ghost use Rattle.gor_flush.specs.Dropping.{AreDropped};
 ghost use Rattle.gor_flush.specs.Opening.{AreFiles, AreEnsured, HoldsOn, IsFresh, IsNoDamage, IsOpened, IsStore, WasFound};
-ghost use Rattle.gor_flush.specs.Preparing.{device_marks};
+ghost use Rattle.gor_flush.specs.Preparing.{device_marks, OpensHome};
 ghost use Rattle.gor_image.specs.DiskSteps.{GoesOn};
 
 use crate::beginning::begin;
@@ -137,7 +137,7 @@ pub(crate) fn prepare<D: Disk>(
     ensures ensured { IsTrue D.tells → IfOk result (λ r. AreEnsured r.files (D.view disk.new)) }
     ensures goes { IsTrue D.tells → GoesOn (D.view disk.old) (D.view disk.new) }
     ensures held { IsTrue D.tells → HoldsOn shards shard ((D.view disk.old).seen) (D.view disk.old) (D.view disk.new) }
-    ensures opened { IsTrue D.tells → IfOk result (λ r. IsOpened shards shard ((D.view disk.old).seen) (device_marks shards shard found.now.marks.items) found.now.tops.items (D.view disk.new)) }
+    ensures opened { IsTrue D.tells → IfOk result (λ r. OpensHome shards shard found.now (D.view disk.old) (D.view disk.new)) }
     ensures dropped { IsTrue D.tells → IfOk result (λ r. AreDropped (device_marks shards shard found.now.marks.items) (D.view disk.new)) }
     ensures undamaged { IsTrue D.tells → IfErr result IsNoDamage }
     ensures cause { CountsOpenFault result (D.faults disk.old) (D.faults disk.new) }

@@ -1,8 +1,8 @@
 //! A gated file.
 ghost use Rattle.std.specs.Prelude.{◌≡◌, ◌≢◌, ◌<◌, ◌≤◌, ◌^◌, [], ◌∷◌, IsTrue, OnOk};
-ghost use Rattle.gor_disk.specs.Disk.{IsImage, IsSettled, Touches, CountsFault, wrote, held_now};
-ghost use Rattle.gor_gate.specs.Gates.{gates, IsClosed, IsOldOrNew, pushed};
-ghost use Rattle.gor_gate.specs.Places.{IsRead, IsEnsured};
+ghost use Rattle.gor_disk.specs.Disk.{IsSettled, Touches, CountsFault};
+ghost use Rattle.gor_gate.specs.Gates.{gates, IsClosed, pushed};
+ghost use Rattle.gor_gate.specs.Places.{IsRead, IsEnsured, AppendsTo, WritesByte};
 
 use crate::appending::{append_block, shut_gate};
 use crate::frames::{Frame, close};
@@ -49,7 +49,7 @@ impl Gated {
     pub fn append<D: Disk>(&mut self, disk: &mut D, frame: &mut Frame) -> Result<(), DiskFailed>
         requires { IsTrue D.tells → IsEnsured self.old (D.view disk.old) }
         ensures file { self.new.file ≡ self.old.file }
-        ensures any_moment { IsTrue D.tells → Touches self.old.file (IsOldOrNew (gates ((D.view disk.old).seen self.old.file)) frame.old.body) (D.view disk.old) (D.view disk.new) }
+        ensures any_moment { IsTrue D.tells → AppendsTo self.old.file frame.old.body (D.view disk.old) (D.view disk.new) }
         ensures ensured { IsTrue D.tells → OnOk result (IsEnsured self.new (D.view disk.new)) }
         ensures appended { IsTrue D.tells → OnOk result (gates ((D.view disk.new).seen self.old.file) ≡ pushed frame.old.body (gates ((D.view disk.old).seen self.old.file))) }
         ensures frame { frame.new.body ≡ frame.old.body }
@@ -77,7 +77,7 @@ impl Gated {
         requires read { IsTrue D.tells → IsRead self.old (D.view disk.old) }
         requires settled { IsTrue D.tells → 1 < self.old.len → IsSettled (D.view disk.old) self.old.file }
         ensures file { self.new.file ≡ self.old.file }
-        ensures any_moment { IsTrue D.tells → Touches self.old.file (IsImage (wrote self.old.gate 1 (held_now (D.view disk.old) self.old.file))) (D.view disk.old) (D.view disk.new) }
+        ensures any_moment { IsTrue D.tells → WritesByte self.old.file self.old.gate (D.view disk.old) (D.view disk.new) }
         ensures kept { IsTrue D.tells → IsSettled (D.view disk.old) self.old.file → self.old.len ≤ 1
             → Touches self.old.file (λ c. (gates c ≡ gates ((D.view disk.old).seen self.old.file)) × IsClosed c) (D.view disk.old) (D.view disk.new) }
         ensures byte { IsTrue D.tells → self.old.len ≤ 1 → OnOk result ((D.view disk.new).seen self.old.file ≡ 0 ∷ []) }

@@ -9,6 +9,7 @@ use Rattle.gor_model.specs.Starts.{IsStart}
 use Rattle.gor_model.specs.Changes.{History, changes}
 use Rattle.gor_model.specs.Answers.{Legal}
 use Rattle.gor_model.specs.PlainMap.{greatest, next_change}
+use Rattle.gor_model.proofs.Lists.{all_unmapped}
 use Rattle.gor_keys.specs.declared.record.KeyRecord.{KeyRecord}
 use Rattle.gor_marks.specs.declared.mark.Mark.{Mark}
 use Rattle.gor_image.specs.Records.{Placed, Batch, BlockRow, Files}
@@ -26,7 +27,7 @@ use Rattle.gor_image.specs.Images.{in_file, read_walk, read_gated, KeysRead, key
 use Rattle.std.proofs.lemmas.Bool.Decides.{eqb_tells}
 use Rattle.gor_image.proofs.Stale.{keys_law}
 use Rattle.gor_image.proofs.Append.{HasNumber, numbers_within}
-use Rattle.gor_image.proofs.AppendLaw.{append_law, upto_below, lasts_below, numbers_below, numbers_go, numbers_map, all_map}
+use Rattle.gor_image.proofs.AppendLaw.{append_law, upto_below, lasts_below, numbers_below, numbers_go, numbers_map}
 use Rattle.gor_image.proofs.Pushed.{gated_more, gated_same, in_file_ok}
 use Rattle.gor_image.proofs.KeysOn.{walk_bound, keys_on, GoOn, last_number_below}
 
@@ -50,7 +51,7 @@ range_last : (a n : ℕ) → range_with_len a (suc n) ≡ range_with_len a n ++ 
 range_last a zero = ap (λ m. m ∷ []) (let e : a ≡ a + 0 = omega arith in e)
 range_last a (suc n) = ap (λ l. a ∷ l) (range_last (a + 1) n ∙ ap (λ m. range_with_len (a + 1) n ++ m ∷ []) (let e : a + 1 + n ≡ a + suc n = omega arith in e))
 
-range_other : (a n k : ℕ) → a + n ≤ k → AllByRecursion (λ l. l ≢ k) (range_with_len a n)
+pub range_other : (a n k : ℕ) → a + n ≤ k → AllByRecursion (λ l. l ≢ k) (range_with_len a n)
 range_other a zero k le = tt
 range_other a (suc n) k le = ((λ e. omega arith), range_other (a + 1) n k (omega arith))
 
@@ -88,7 +89,7 @@ module _ (image after : Contents) (marks : List Mark) (start : Start) (C E : Lis
         below a (x ∷ xs) less all = let h = below a xs less all.1 in let k = all.0 in omega arith
 
   numbered : AllByRecursion (λ r. HasNumber (next_change start C) (next_change start (E ++ C)) r.it) keys
-  numbered = all_map (HasNumber (next_change start C) (next_change start (E ++ C))) (λ (r : Placed KeyRecord). r.it) keys
+  numbered = all_unmapped (HasNumber (next_change start C) (next_change start (E ++ C))) (λ (r : Placed KeyRecord). r.it) keys
       (subst (λ l. AllByRecursion (HasNumber (next_change start C) (next_change start (E ++ C))) l) (sym are.key_list) (numbers_within start C E))
 
   rising : RiseAbove stands.keys.number (filter_map (λ r. number_in r.it) keys)

@@ -11,6 +11,7 @@ use Rattle.gor_model.specs.declared.start.Row.{Row}
 use Rattle.gor_model.specs.declared.start.Start.{Start}
 use Rattle.gor_model.specs.PlainMap.{row_after, next_change, slots_after}
 use Rattle.gor_model.proofs.SlotLaws.{ChangesFit, SlotsFit, slot_at, slots_fit}
+use Rattle.gor_model.proofs.Lists.{all_joined, all_weaker}
 use Rattle.gor_keys.specs.declared.record.KeyRecord.{KeyRecord}
 use Rattle.gor_keys.specs.declared.record.KeyRecord.TheVariants.{Create, Delete, Live}
 use Rattle.gor_log.specs.declared.record.LogRecord.{LogRecord}
@@ -19,7 +20,6 @@ use Rattle.gor_image.specs.Recovery.{Names, read_name, number_in, is_within, is_
 use Rattle.gor_image.specs.Holding.{RiseAbove}
 use Rattle.gor_image.specs.ChangeRecords.{begun_record, key_record, log_record, key_records, log_records_of}
 use Rattle.gor_image.proofs.Core.{Core}
-use Rattle.gor_image.proofs.Lists.{all_weaker}
 use Rattle.gor_image.proofs.Changes.{step}
 use Rattle.gor_image.proofs.Allowed.{AreAllowed}
 use Rattle.gor_image.proofs.Reading.{read_plain, plain_append, and_next}
@@ -54,10 +54,6 @@ goes_on base blocks start C names log plain core (c ∷ E) fits allowed = on (go
       }
 
 -- ---- numbers
-
-pub all_both : {X : Type 0} (P : X → Type 0) (xs ys : List X) → AllByRecursion P xs → AllByRecursion P ys → AllByRecursion P (xs ++ ys)
-all_both P [] ys all more = more
-all_both P (x ∷ xs) ys all more = (all.0, all_both P xs ys all.1 more)
 
 pub rise_more : (n y : ℕ) (xs : List ℕ) → RiseAbove n xs → AllByRecursion (λ x. x < y) xs → n < y → RiseAbove n (xs ++ y ∷ [])
 rise_more n y [] rise below less = (less, tt)
@@ -101,9 +97,9 @@ numbers_within start C (c ∷ E) = at (key_record start (E ++ C) c) refl (number
 
   at : (o : Option KeyRecord) → key_record start (E ++ C) c ≡ o → AllByRecursion (HasNumber (next_change start C) (next_change start (E ++ C))) (key_records start C E)
       → AllByRecursion (HasNumber (next_change start C) (next_change start (c ∷ (E ++ C)))) (key_records start C E ++ cons_option o [])
-  at None e all = all_both (HasNumber (next_change start C) (next_change start (c ∷ (E ++ C)))) (key_records start C E) []
+  at None e all = all_joined (HasNumber (next_change start C) (next_change start (c ∷ (E ++ C)))) (key_records start C E) []
       (all_weaker _ _ (key_records start C E) (number_later (next_change start C) (next_change start (E ++ C)) (next_change start (c ∷ (E ++ C))) (omega arith)) all) tt
-  at (Some r) e all = all_both (HasNumber (next_change start C) (next_change start (c ∷ (E ++ C)))) (key_records start C E) (r ∷ [])
+  at (Some r) e all = all_joined (HasNumber (next_change start C) (next_change start (c ∷ (E ++ C)))) (key_records start C E) (r ∷ [])
       (all_weaker _ _ (key_records start C E) (number_later (next_change start C) (next_change start (E ++ C)) (next_change start (c ∷ (E ++ C))) (omega arith)) all)
       (has_number (next_change start C) (next_change start (c ∷ (E ++ C))) r (next_change start (E ++ C)) (key_number start (E ++ C) c r e) (let m = more in omega arith) (omega arith), tt)
 

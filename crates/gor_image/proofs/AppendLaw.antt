@@ -14,6 +14,7 @@ use Rattle.gor_model.specs.PlainMap.{greatest, next_change, slots_after}
 use Rattle.gor_model.proofs.SlotLaws.{ChangesFit, SlotsFit, slot_at}
 use Rattle.gor_model.proofs.LegalLaws.{legal_fits}
 use Rattle.gor_model.proofs.StartLaws.{start_fits}
+use Rattle.gor_model.proofs.Lists.{filter_all, all_unmapped, all_push, all_weaker, all_joined}
 use Rattle.gor_keys.specs.declared.record.KeyRecord.{KeyRecord}
 use Rattle.gor_keys.specs.declared.record.KeyRecord.TheVariants.{Create, Delete, Live}
 use Rattle.gor_image.specs.Records.{Placed, Batch, Files}
@@ -21,10 +22,9 @@ use Rattle.gor_image.specs.Recovery.{read_name, read_each, number_in, counts, co
 use Rattle.gor_image.specs.Holding.{RiseAbove, BatchesRise, IsKeyUidBelow, Stand, with_keys, with_batch}
 use Rattle.gor_image.specs.ChangeRecords.{key_record, key_records, log_records_of, AreOf}
 use Rattle.gor_image.proofs.Core.{Core}
-use Rattle.gor_image.proofs.Lists.{all_append, all_weaker}
 use Rattle.gor_image.proofs.Reading.{each_append, each_plain, read_plain}
 use Rattle.gor_image.proofs.Allowed.{AreAllowed, legal_allowed}
-use Rattle.gor_image.proofs.Append.{GoesOn, goes_on, HasNumber, numbers_within, counts_old, counts_new, rise_more, key_number, all_both}
+use Rattle.gor_image.proofs.Append.{GoesOn, goes_on, HasNumber, numbers_within, counts_old, counts_new, rise_more, key_number}
 use Rattle.gor_image.proofs.Whole.{core_of, stand_of}
 
 -- ---- the greatest of some numbers
@@ -41,14 +41,6 @@ pub greatest_bound : (n m : ℕ) (xs : List ℕ) → n ≤ m → AllByRecursion 
 greatest_bound n m [] le all = le
 greatest_bound n m (x ∷ xs) le all = let h = greatest_bound n m xs le all.1 in let k = all.0 in omega arith
 
-pub all_map : {X Y : Type 0} (P : Y → Type 0) (f : X → Y) (xs : List X) → AllByRecursion P (map f xs) → AllByRecursion (λ x. P (f x)) xs
-all_map P f [] all = tt
-all_map P f (x ∷ xs) all = (all.0, all_map P f xs all.1)
-
-pub map_all : {X Y : Type 0} (P : Y → Type 0) (f : X → Y) (xs : List X) → AllByRecursion (λ x. P (f x)) xs → AllByRecursion P (map f xs)
-map_all P f [] all = tt
-map_all P f (x ∷ xs) all = (all.0, map_all P f xs all.1)
-
 -- what holds of each number that there is
 pub all_numbers : (P : ℕ → Type 0) (xs : List (Placed KeyRecord)) → AllByRecursion P (filter_map (λ r. number_in r.it) xs) → AllByRecursion (λ r. MatchOption (number_in r.it) ⊤ P) xs
 all_numbers P [] all = tt
@@ -61,10 +53,6 @@ all_numbers P (x ∷ xs) all = at (number_in x.it) refl all (all_numbers P xs) w
 filter_same : {X : Type 0} (p q : X → Bool) (xs : List X) → AllByRecursion (λ x. p x ≡ q x) xs → filter p xs ≡ filter q xs
 filter_same p q [] same = refl
 filter_same p q (x ∷ xs) same = rw (same.0, filter_same p q xs same.1) refl
-
-pub filter_all : {X : Type 0} (p : X → Bool) (xs : List X) → AllByRecursion (λ x. p x ≡ true) xs → filter p xs ≡ xs
-filter_all p [] all = refl
-filter_all p (x ∷ xs) all = rw (all.0, filter_all p xs all.1) refl
 
 pub numbers_map : (xs : List (Placed KeyRecord)) → filter_map (λ r. number_in r.it) xs ≡ filter_map number_in (map (λ r. r.it) xs)
 numbers_map [] = refl
@@ -98,7 +86,7 @@ numbers_go upto start C olds go (c ∷ E) = at (key_record start (E ++ C) c) ref
       subst (NumbersGo upto (next_change start (c ∷ (E ++ C)))) (append_assoc olds (filter_map number_in (key_records start C E)) (next_change start (E ++ C) ∷ []) ∙ ap (λ l. olds ++ l) (sym last))
       (record {
         rise = rise_more upto (next_change start (E ++ C)) (olds ++ filter_map number_in (key_records start C E)) before.rise before.below before.above;
-        below = all_append (λ x. x < next_change start (c ∷ (E ++ C))) (olds ++ filter_map number_in (key_records start C E)) (next_change start (E ++ C))
+        below = all_push (λ x. x < next_change start (c ∷ (E ++ C))) (olds ++ filter_map number_in (key_records start C E)) (next_change start (E ++ C))
             (all_weaker (λ x. x < next_change start (E ++ C)) (λ x. x < next_change start (c ∷ (E ++ C))) (olds ++ filter_map number_in (key_records start C E)) (λ x h. omega arith) before.below) (omega arith);
         above = let h = before.above in omega arith;
       })
@@ -145,7 +133,7 @@ number_at_most a b (x ∷ xs) all = at x.it all.0 (number_at_most a b xs all.1) 
 
 module _ (files : Files) (start : Start) (C E : List Change) (keys : List (Placed KeyRecord)) (batch : Batch) (stand : Stand files start C) (are : AreOf start C E keys batch) where
   numbered : AllByRecursion (λ r. HasNumber batch.first (batch.last + 1) r.it) keys
-  numbered = all_map (HasNumber batch.first (batch.last + 1)) (λ (r : Placed KeyRecord). r.it) keys
+  numbered = all_unmapped (HasNumber batch.first (batch.last + 1)) (λ (r : Placed KeyRecord). r.it) keys
       (subst (λ l. AllByRecursion (HasNumber batch.first (batch.last + 1)) l) (sym are.key_list)
       (subst (λ a. AllByRecursion (HasNumber a (batch.last + 1)) (key_records start C E)) (sym are.first)
       (subst (λ b. AllByRecursion (HasNumber (next_change start C) b) (key_records start C E)) (sym are.last) (numbers_within start C E))))
@@ -176,10 +164,10 @@ module _ (files : Files) (start : Start) (C E : List Change) (keys : List (Place
     high = greatest_bound _ batch.last (filter_map (λ (r : Placed KeyRecord). number_in r.it) (files.keys ++ keys))
         (subst (λ l. greatest files.base.upto l ≤ batch.last) (sym lasts)
         (greatest_bound files.base.upto batch.last (map (λ (b : Batch). b.last) files.batches ++ batch.last ∷ []) (let h = upto_below files start C stand in let e = are.first in let s = are.some in omega arith)
-        (all_append (λ x. x ≤ batch.last) (map (λ (b : Batch). b.last) files.batches) batch.last
+        (all_push (λ x. x ≤ batch.last) (map (λ (b : Batch). b.last) files.batches) batch.last
         (all_weaker (λ x. x < next_change start C) (λ x. x ≤ batch.last) (map (λ (b : Batch). b.last) files.batches) (λ x h. let e = are.first in let s = are.some in omega arith) (lasts_below files start C stand)) (omega arith))))
         (subst (λ l. AllByRecursion (λ x. x ≤ batch.last) l) (sym (filter_map-append (λ (r : Placed KeyRecord). number_in r.it) files.keys keys))
-        (all_both (λ x. x ≤ batch.last) (filter_map (λ (r : Placed KeyRecord). number_in r.it) files.keys) (filter_map (λ (r : Placed KeyRecord). number_in r.it) keys)
+        (all_joined (λ x. x ≤ batch.last) (filter_map (λ (r : Placed KeyRecord). number_in r.it) files.keys) (filter_map (λ (r : Placed KeyRecord). number_in r.it) keys)
         (all_weaker (λ x. x < next_change start C) (λ x. x ≤ batch.last) (filter_map (λ (r : Placed KeyRecord). number_in r.it) files.keys) (λ x h. let e = are.first in let s = are.some in omega arith) (numbers_below files start C stand))
         (number_at_most batch.first batch.last keys numbered)))
 
@@ -207,7 +195,7 @@ module _ (files : Files) (start : Start) (C E : List Change) (keys : List (Place
             ∙ sym (filter_map-append (λ (r : Placed KeyRecord). number_in r.it) files.keys keys)) numbers.rise)
             (batches_more 0 (next_change start C) files.batches batch stand.recover.batches (lasts_below files start C stand) (let h = upto_below files start C stand in omega arith) are.first are.some)
             (subst (λ n. AllByRecursion (λ (r : Placed KeyRecord). IsKeyUidBelow n r.it) (files.keys ++ keys)) (sym next_after)
-            (all_both (λ (r : Placed KeyRecord). IsKeyUidBelow (next_change start (E ++ C)) r.it) files.keys keys
+            (all_joined (λ (r : Placed KeyRecord). IsKeyUidBelow (next_change start (E ++ C)) r.it) files.keys keys
             (all_weaker (λ (r : Placed KeyRecord). IsKeyUidBelow (next_of files) r.it) (λ (r : Placed KeyRecord). IsKeyUidBelow (next_change start (E ++ C)) r.it) files.keys
             (λ r h. key_below (next_of files) (next_change start (E ++ C)) (let m = stand.next in let e = are.first in let s = are.some in let l = are.last in omega arith) r.it h) stand.fit.key_uids)
             (all_weaker (λ (r : Placed KeyRecord). HasNumber batch.first (batch.last + 1) r.it) (λ (r : Placed KeyRecord). IsKeyUidBelow (next_change start (E ++ C)) r.it) keys

@@ -11,6 +11,7 @@ use Rattle.gor_model.specs.declared.unit.Unit.TheVariants.{Second}
 use Rattle.gor_model.specs.Windows.{window, window_in, window_length, last_window}
 use Rattle.gor_model.specs.Fields.{IsBytes, number_in as field_in}
 use Rattle.gor_model.specs.Codes.{block_bits}
+use Rattle.gor_model.proofs.Lists.{all_weaker}
 use Rattle.gor_bits.specs.Spelled.{bits_of}
 use Rattle.gor_block.specs.Marks.{IsChain, mark_of}
 use Rattle.gor_block.specs.Decoded.{decoded, starts_with}
@@ -22,7 +23,6 @@ use Rattle.gor_block.proofs.Finding.{starts_begins}
 use Rattle.gor_image.specs.Recovery.{is_above}
 use Rattle.gor_image.specs.Blocks.{are_in, is_packed, is_block_of, candidates, points_in}
 use Rattle.gor_image.specs.Laws.{BlockIsExact}
-use Rattle.gor_image.proofs.Lists.{all_weaker}
 
 parts : (a b : Bool) → (a && b) ≡ true → (a ≡ true) × (b ≡ true)
 parts true true e = (refl, refl)

@@ -13,12 +13,12 @@ use Rattle.gor_model.specs.declared.unit.Unit.TheVariants.{Second}
 use Rattle.gor_model.specs.Windows.{window, window_in, window_length}
 use Rattle.gor_model.specs.Fields.{number_in as field_in}
 use Rattle.gor_model.specs.Codes.{block_bits, Begins}
+use Rattle.gor_model.proofs.Lists.{all_places}
 use Rattle.gor_bits.specs.Spelled.{bits_of}
 use Rattle.gor_bits.proofs.ByteBits.{length-bits_of}
 use Rattle.gor_block.specs.PointBlock.{PointBlock, IsBlock, IsBytesOf, code_of}
 use Rattle.gor_block.specs.Faults.{IsHeaded}
 use Rattle.gor_block.proofs.BytesLaws.{parts_of, headed_of, raw_points}
-use Rattle.gor_block.proofs.ChainLaws.{each_of}
 use Rattle.gor_block.proofs.Finding.{begins_self, begins_starts}
 use Rattle.gor_image.specs.Recovery.{is_above}
 use Rattle.gor_image.specs.Blocks.{are_in, is_packed, is_block_of, candidates, points_in}
@@ -80,8 +80,8 @@ block_found b bytes block unit h = rw found (rw is_block refl) where
       let some : nat_le 1 (length b.points) ≡ true = (let s = h.some in grind arith) in
       let room : length b.points ≤ window_length Second = subst (λ (u : TimeUnit). length b.points ≤ window_length u) unit c.room in
       let few : nat_le (length b.points) (window_length Second) ≡ true = grind arith in
-      let inside = subst (λ (u : TimeUnit). AllByRecursion (λ (q : Point). window_in u q.time ≡ b.window) b.points) unit (each_of (λ (q : Point). window_in b.unit q.time ≡ b.window) b.points c.inside) in
-      let points = are_found b.window None b.points inside (each_of (λ (q : Point). q.word < 2 ^ 64) b.points block.words) c.rising (all_first b.points) in
+      let inside = subst (λ (u : TimeUnit). AllByRecursion (λ (q : Point). window_in u q.time ≡ b.window) b.points) unit (all_places (λ (q : Point). window_in b.unit q.time ≡ b.window) b.points c.inside) in
+      let points = are_found b.window None b.points inside (all_places (λ (q : Point). q.word < 2 ^ 64) b.points block.words) c.rising (all_first b.points) in
       let bits : is_packed (block_bits Second b.window (reverse b.points)) (bits_of (drop 8 bytes)) ≡ true = ap (λ code. is_packed code (bits_of (drop 8 bytes))) (sym (same_code b unit)) ∙ in_bits in
       rw (long, own, count, some, few, points, bits) refl where
         size : length (bits_of (drop 8 bytes)) ≡ 8 * length h.packed

@@ -14,6 +14,7 @@ use Rattle.gor_model.specs.declared.start.Start.{Start}
 use Rattle.gor_model.specs.PlainMap.{greatest, last_of, with_kept, shard_floor, row_after, next_change, slots_after, begun_row}
 use Rattle.gor_model.proofs.PlainMapLaws.{row_after-cons, row_after_change, with_point, raised_to}
 use Rattle.gor_model.proofs.SlotLaws.{ChangesFit, ChangeFits, no_stray_seals, bytes_tell, SlotsFit, AreVacant, slot_at}
+use Rattle.gor_model.proofs.Lists.{rising_push}
 use Rattle.gor_keys.specs.declared.record.KeyRecord.{KeyRecord}
 use Rattle.gor_keys.specs.declared.record.KeyRecord.TheVariants.{Delete}
 use Rattle.gor_log.specs.declared.record.LogRecord.{LogRecord}
@@ -23,7 +24,7 @@ use Rattle.gor_image.specs.Recovery.{is_above, base_end, points_of, filled, floo
 use Rattle.gor_image.specs.Holding.{IsUidBelow}
 use Rattle.gor_image.specs.ChangeRecords.{begun_record, uid_of_put, key_record, log_record}
 use Rattle.gor_image.proofs.Filled.{filled_other, filled_put, filled_seal, points_put, points_other, greatest_append, none_more, some_more}
-use Rattle.gor_image.proofs.Lists.{rising_more, later_than_all, above_base, other_put, other_seal, no_puts, no_seals, no_blocks}
+use Rattle.gor_image.proofs.Lists.{later_than_all, above_base, other_put, other_seal, no_puts, no_seals, no_blocks}
 use Rattle.gor_image.proofs.Core.{Rises, Same, NamesFit, Core, same_log, same_absent, same_there, same_slot}
 use Rattle.gor_image.proofs.Steps.{fit_log, fit_begun, fit_gone}
 
@@ -121,7 +122,7 @@ module _ (base : Base) (blocks : List BlockRow) (start : Start) (C : List Change
 
       own_rising : Rises (points_of base blocks (log ++ Put found.0.uid t w ∷ []) found.0.uid)
       own_rising = subst Rises (sym (points_put base blocks log found.0 t w above))
-          (rising_more (λ (p q : Point). p.time < q.time) (points_of base blocks log found.0.uid) (record { time = t; word = w }) (core.fit.rising k found.0 found.1)
+          (rising_push (λ (p q : Point). p.time < q.time) (points_of base blocks log found.0.uid) (record { time = t; word = w }) (core.fit.rising k found.0 found.1)
           (later_than_all t row.floor (points_of base blocks log found.0.uid) timely.0 (core.fit.rising k found.0 found.1)
           (λ p is. timely.1 p (ap last_of (sym kept_same) ∙ is)))) where
             kept_same : kept row.floor (points_of base blocks log found.0.uid) ≡ kept row.floor row.points

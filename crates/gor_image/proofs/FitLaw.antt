@@ -9,6 +9,7 @@ use Rattle.gor_model.specs.declared.start.Row.{Row}
 use Rattle.gor_model.specs.declared.start.Start.{Start}
 use Rattle.gor_model.specs.PlainMap.{next_change}
 use Rattle.gor_model.specs.declared.unit.Unit.TheVariants.{Second}
+use Rattle.gor_model.proofs.Lists.{all_weaker}
 use Rattle.gor_disk.specs.declared.disk.FileId.TheVariants.{Marks, Keys, Log}
 use Rattle.gor_disk.specs.Disk.{Contents}
 use Rattle.gor_gate.specs.Gates.{gates, IsClosed}
@@ -27,7 +28,6 @@ use Rattle.gor_image.specs.Laws.{IsBefore, AreClosed}
 use Rattle.gor_image.proofs.AnyMarks.{reads_as}
 use Rattle.gor_image.proofs.MapHeld.{stands_held}
 use Rattle.gor_image.proofs.Mapped.{IsMap, is_map, map_is}
-use Rattle.gor_image.proofs.Lists.{all_weaker}
 use Rattle.gor_image.proofs.Starting.{IsRecordOf, read_have}
 use Rattle.gor_image.proofs.Opening.{opening_law}
 use Rattle.gor_image.proofs.Pushed.{in_file_ok}

@@ -7,6 +7,8 @@ use Rattle.std.proofs.lemmas.List.{append_assoc, append-nil, length-append}
 use Rattle.std.proofs.lemmas.List.Elements.{filter_map-append}
 use Rattle.gor_model.specs.PlainMap.{last_of}
 use Rattle.gor_model.specs.Fields.{number_in as field_in, is_number}
+use Rattle.gor_model.proofs.Lists.{last_push, all_joined, all_weaker, all_push}
+use Rattle.gor_model.proofs.FieldLaws.{bind_ok}
 use Rattle.gor_gate.specs.Gates.{Walk, gates}
 use Rattle.gor_marks.specs.declared.mark.Mark.{Mark}
 use Rattle.gor_marks.specs.declared.mark.Mark.TheVariants.{Home, Sealed}
@@ -23,10 +25,9 @@ use Rattle.gor_image.specs.Recovery.{number_in, is_above}
 use Rattle.gor_image.specs.Holding.{RiseAbove, BatchesRise}
 use Rattle.gor_image.specs.Grammars.{Reads, and_then, wrong, from, mark_at, keys_at, log_at, batch_placed}
 use Rattle.gor_image.specs.Images.{read_bodies, read_walk, KeysRead, key_after, keys_after, read_keys, read_batch, read_gated, read_logs, last_number, or_zero, mark_after, read_mark, is_none, current, base_of, first_log_of, sealed_window, sealed_first_log}
-use Rattle.gor_image.proofs.Append.{rise_more, all_both}
-use Rattle.gor_image.proofs.Lists.{all_weaker, all_append}
+use Rattle.gor_image.proofs.Append.{rise_more}
 use Rattle.gor_image.proofs.Pushed.{in_file_ok}
-use Rattle.gor_image.proofs.ReadBack.{unless, truth, step_ok, only_where, after_ok, from_ok, not_false, IsWithin, mark_within, IsLow, keys_low}
+use Rattle.gor_image.proofs.ReadBack.{unless, truth, only_where, after_ok, from_ok, not_false, IsWithin, mark_within, IsLow, keys_low}
 
 -- ---- an invariant of what bodies leave
 
@@ -55,7 +56,7 @@ number_push upto done st t n f inv is =
     let it : record st { number = n } ≡ t = cc in
     subst (KeysInv upto (done ++ n ∷ [])) it (record {
       rise = rise_more upto n done inv.rise (all_weaker (λ x. x ≤ st.number) (λ x. x < n) done (λ x h. omega arith) inv.below) (let h = inv.above in omega arith);
-      below = all_append (λ x. x ≤ n) done n (all_weaker (λ x. x ≤ st.number) (λ x. x ≤ n) done (λ x h. omega arith) inv.below) (omega arith);
+      below = all_push (λ x. x ≤ n) done n (all_weaker (λ x. x ≤ st.number) (λ x. x ≤ n) done (λ x h. omega arith) inv.below) (omega arith);
       above = let h = inv.above in omega arith;
     })
 
@@ -92,7 +93,7 @@ keys_keep sealed upto st t at body right is =
     let moved = subst (λ l. KeysInv upto l u.0) onto inv in
     subst (KeysRight upto) it (record {
       numbers = record { rise = moved.rise; below = moved.below; above = moved.above };
-      low = all_both IsLow st.records rs.0 right.low (keys_low (sealed && nat_eq st.bodies 0) at body rs.0 rs.1);
+      low = all_joined IsLow st.records rs.0 right.low (keys_low (sealed && nat_eq st.bodies 0) at body rs.0 rs.1);
     })
 
 pub keys_right : (sealed : Bool) (upto : ℕ) (st t : KeysRead) (walk : Walk) → KeysRight upto st → read_walk (read_keys sealed) st walk ≡ Ok t → KeysRight upto t
@@ -128,7 +129,7 @@ unfolding header_in
 header_rises bytes b is =
     let a = unless (nat_lt (length bytes) 16) _ _ b is in
     let c = unless (not (is_range (field_in w64 0 bytes) (field_in w64 8 bytes))) _ _ b a.1 in
-    let r = step_ok (log_records_in (drop 16 bytes)) (λ records. Ok (spelled_batch (field_in w64 0 bytes) (field_in w64 8 bytes) records)) b c.1 in
+    let r = bind_ok (log_records_in (drop 16 bytes)) (λ records. Ok (spelled_batch (field_in w64 0 bytes) (field_in w64 8 bytes) records)) b c.1 in
     let both : Ok (spelled_batch (field_in w64 0 bytes) (field_in w64 8 bytes) r.0) ≡ Ok b = r.2 in
     let it : spelled_batch (field_in w64 0 bytes) (field_in w64 8 bytes) r.0 ≡ b = cc in
     let test : nat_le (field_in w64 0 bytes) (field_in w64 8 bytes) ≡ true =
@@ -184,10 +185,6 @@ logs_rise image (log ∷ logs) s t rise is =
     logs_rise image logs u.0 t (bodies_keep (BatchesRise 0) (read_batch log) (batch_keeps log) s u.0 (gates (image (Log log))).bodies rise (whole_walk (read_batch log) s u.0 (gates (image (Log log))) walked)) u.2
 
 -- ---- marks
-
-last_push : {X : Type 0} (xs : List X) (x : X) → last_of (xs ++ x ∷ []) ≡ Some x
-last_push [] x = refl
-last_push {X} (y ∷ xs) x = ap (λ (o : Option X). Some (unwrap_or o y)) (last_push xs x)
 
 mark_keeps_within : (s t : List Mark) (at : ℕ) (m : Mark) → IsWithin m → first_log_of s ≤ current s → mark_after s at m ≡ Ok t → first_log_of t ≤ current t
 mark_keeps_within s t at (Home n h) within le is =

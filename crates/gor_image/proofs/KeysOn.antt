@@ -5,6 +5,7 @@ use Rattle.std.specs.List.{AllByRecursion, cons_option}
 use Rattle.std.proofs.lemmas.List.{append_assoc, append-nil}
 use Rattle.std.proofs.lemmas.List.Elements.{filter_map-append}
 use Rattle.gor_model.specs.PlainMap.{greatest, last_of}
+use Rattle.gor_model.proofs.Lists.{all_last, all_unmapped}
 use Rattle.gor_keys.specs.declared.record.KeyRecord.{KeyRecord}
 use Rattle.gor_keys.specs.declared.record.KeyRecord.TheVariants.{Create, Delete, Live}
 use Rattle.gor_image.specs.Records.{Placed, Batch}
@@ -14,9 +15,7 @@ use Rattle.gor_gate.specs.Gates.{Walk}
 use Rattle.gor_image.specs.declared.fault.DamageKind.TheVariants.{Order, Cut}
 use Rattle.gor_image.specs.Grammars.{Reads, and_then, wrong, keys_at}
 use Rattle.gor_image.specs.Images.{read_bodies, read_walk, KeysRead, key_after, keys_after, read_keys, last_number, or_zero}
-use Rattle.gor_image.proofs.Lists.{all_last}
 use Rattle.gor_image.proofs.Append.{HasNumber}
-use Rattle.gor_image.proofs.AppendLaw.{all_map}
 
 -- ---- key lists: the last number is one of those read
 
@@ -112,4 +111,4 @@ pub last_number_below : (n : ℕ) (batches : List Batch) → 0 < n → AllByRecu
 last_number_below n batches some below = by (last_of batches) refl where
   by : (o : Option Batch) → last_of batches ≡ o → or_zero (option_map (λ (b : Batch). b.last) (last_of batches)) < n
   by None e = rw e some
-  by (Some b) e = rw e (all_last (λ (c : Batch). c.last < n) batches (all_map (λ x. x < n) (λ (c : Batch). c.last) batches below) b e)
+  by (Some b) e = rw e (all_last (λ (c : Batch). c.last < n) batches b (all_unmapped (λ x. x < n) (λ (c : Batch). c.last) batches below) e)

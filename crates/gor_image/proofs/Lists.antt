@@ -1,6 +1,6 @@
 -- Rising lists, and lists whose numbers are below a bound.
-use Rattle.std.proofs.Common.{◌≡◌, ◌≢◌, ℕ, ◌+◌, ◌/◌, ◌<◌, ◌≤◌, List, [], ◌∷◌, ◌++◌, Bool, true, false, ◌⊎◌, inl, inr, subst, Option, Some, None, refl, sym, ap, ◌∙◌, arith, unwrap_or}
-use Rattle.std.specs.Prelude.{filter, filter_map, flat_map, nat_eq, nat_le}
+use Rattle.std.proofs.Common.{◌≡◌, ◌≢◌, ℕ, ◌+◌, ◌/◌, ◌<◌, ◌≤◌, List, [], ◌∷◌, Bool, true, false, ◌⊎◌, inl, inr, subst, Option, Some, None, refl, sym, ◌∙◌, arith}
+use Rattle.std.specs.Prelude.{filter_map, flat_map, nat_eq, nat_le}
 use Rattle.std.specs.List.{AllByRecursion}
 use Rattle.std.proofs.lemmas.Bool.Decides.{eqb_tells}
 use Rattle.std.proofs.lemmas.Nat.{le-div}
@@ -8,37 +8,12 @@ use Rattle.gor_model.specs.declared.point.Point.{Point}
 use Rattle.gor_model.specs.Lists.{EachBefore}
 use Rattle.gor_model.specs.Windows.{window, is_kept, kept}
 use Rattle.gor_model.specs.PlainMap.{last_of}
+use Rattle.gor_model.proofs.Lists.{all_filter, all_last}
 use Rattle.gor_log.specs.declared.record.LogRecord.{LogRecord}
 use Rattle.gor_log.specs.declared.record.LogRecord.TheVariants.{Put, Floor, Seal}
 use Rattle.gor_image.specs.Records.{BlockRow, Base}
 use Rattle.gor_image.specs.Recovery.{is_above, base_end, put_point, seal_end, block_points}
 use Rattle.gor_image.specs.Holding.{IsUidBelow}
-
-pub all_append : {X : Type 0} (P : X → Type 0) (xs : List X) (y : X) → AllByRecursion P xs → P y → AllByRecursion P (xs ++ y ∷ [])
-all_append P [] y all here = (here, tt)
-all_append P (x ∷ xs) y all here = (all.0, all_append P xs y all.1 here)
-
-pub all_weaker : {X : Type 0} (P Q : X → Type 0) (xs : List X) → ((x : X) → P x → Q x) → AllByRecursion P xs → AllByRecursion Q xs
-all_weaker P Q [] weaker all = tt
-all_weaker P Q (x ∷ xs) weaker all = (weaker x all.0, all_weaker P Q xs weaker all.1)
-
-pub rising_more : {X : Type 0} (R : X → X → Type 0) (xs : List X) (y : X) → EachBefore R xs → AllByRecursion (λ x. R x y) xs → EachBefore R (xs ++ y ∷ [])
-rising_more R [] y rising before = (tt, tt)
-rising_more R (x ∷ xs) y rising before = (all_append (λ z. R x z) xs y rising.0 before.0, rising_more R xs y rising.1 before.1)
-
-pub all_filter : {X : Type 0} (P : X → Type 0) (p : X → Bool) (xs : List X) → AllByRecursion P xs → AllByRecursion P (filter p xs)
-all_filter P p [] all = tt
-all_filter P p (x ∷ xs) all = at (p x) refl (all_filter P p xs all.1) where
-  at : (b : Bool) → p x ≡ b → AllByRecursion P (filter p xs) → AllByRecursion P (filter p (x ∷ xs))
-  at true e rest = rw e (all.0, rest)
-  at false e rest = rw e rest
-
-pub all_last : {X : Type 0} (P : X → Type 0) (xs : List X) → AllByRecursion P xs → (x : X) → last_of xs ≡ Some x → P x
-all_last P [] all x is = absurd (let both : None ≡ Some x = is in cc)
-all_last {X} P (y ∷ ys) all x is = at (last_of ys) refl is (all_last P ys all.1 x) where
-  at : (o : Option X) → last_of ys ≡ o → Some (unwrap_or o y) ≡ Some x → (last_of ys ≡ Some x → P x) → P x
-  at None e same further = let it : y ≡ x = cc in subst P it all.0
-  at (Some z) e same further = let it : z ≡ x = cc in further (e ∙ ap Some it)
 
 -- a point that is later than the last kept one, and at the floor or later, is later than all
 pub later_than_all : (t f : ℕ) (xs : List Point) → f ≤ t → EachBefore (λ p q. p.time < q.time) xs
@@ -50,7 +25,7 @@ later_than_all t f (x ∷ xs) low rising last = at (is_kept f x) refl (later_tha
   by_last e rest None none = (last x (rw e (rw none refl)), rest (λ p is. absurd (let both : None ≡ Some p = sym none ∙ is in cc)))
   by_last e rest (Some l) some =
       let late : l.time < t = last l (rw e (rw some refl)) in
-      let early : x.time < l.time = all_last (λ p. x.time < p.time) (kept f xs) (all_filter (λ p. x.time < p.time) (is_kept f) xs rising.0) l some in
+      let early : x.time < l.time = all_last (λ p. x.time < p.time) (kept f xs) l (all_filter (λ p. x.time < p.time) (is_kept f) xs rising.0) some in
       (omega arith, rest (λ p is. let it : l ≡ p = (let both : Some l ≡ Some p = sym some ∙ is in cc) in subst (λ (q : Point). q.time < t) it late))
 
   at : (b : Bool) → is_kept f x ≡ b → (((p : Point) → last_of (kept f xs) ≡ Some p → p.time < t) → AllByRecursion (λ p. p.time < t) xs) → AllByRecursion (λ p. p.time < t) (x ∷ xs)

@@ -4,6 +4,7 @@ use Rattle.std.specs.Prelude.{filter_map, ⊤, Result, Ok, Err}
 use Rattle.std.specs.List.{AllByRecursion}
 use Rattle.gor_model.specs.Windows.{slots_of_a_shard}
 use Rattle.gor_model.specs.declared.start.Row.{Row}
+use Rattle.gor_model.proofs.Lists.{all_filter}
 use Rattle.gor_image.specs.Records.{Placed, Files}
 use Rattle.gor_image.specs.Recovery.{Names, WrongName, ShardMap, recovered, names_of, number_in, counted_keys, next_of, counts}
 use Rattle.gor_image.specs.Holding.{RecoverTo, RiseAbove, BatchesRise, IsKeyUidBelow}
@@ -14,7 +15,6 @@ use Rattle.gor_image.specs.Grammars.{and_then}
 use Rattle.gor_image.specs.Images.{names_in, rows_rise, rows_by_slot, map_of_files, name_damage}
 use Rattle.gor_image.proofs.Rising.{rows_by_slot_ok, ok_rows_by_slot}
 use Rattle.gor_image.proofs.Reading.{AreRead, are_read}
-use Rattle.gor_image.proofs.Lists.{all_filter}
 
 -- files that recover with no damage have that map
 pub map_is : (list : ℕ) (files : Files) (names : Names) → RecoverTo files names → map_of_files list files ≡ Ok (recovered files names)

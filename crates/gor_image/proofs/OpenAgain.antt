@@ -11,6 +11,7 @@ use Rattle.gor_model.proofs.SlotLaws.{ChangesFit, slot_at}
 use Rattle.gor_model.proofs.SlotsBelow.{AreBelow, slots_below, start_below}
 use Rattle.gor_model.proofs.StartLaws.{start_fits}
 use Rattle.gor_model.proofs.LegalLaws.{legal_fits}
+use Rattle.gor_model.proofs.Lists.{all_mapped}
 use Rattle.gor_image.specs.declared.fault.ImageFault.TheVariants as fault
 use Rattle.gor_image.specs.Recovery.{ShardMap}
 use Rattle.gor_image.specs.Grammars.{and_then}
@@ -32,10 +33,6 @@ all_filtered P f gives (x ∷ xs) = at (all_filtered P f gives xs) (f x) refl wh
 at_most : (most n : ℕ) (ns : List ℕ) → n ≤ most → AllByRecursion (λ k. k ≤ most) ns → greatest n ns ≤ most
 at_most most n [] low all = low
 at_most most n (k ∷ ns) low all = let rest = at_most most n ns low all.1 in let head = all.0 in omega (arith, rest, head)
-
-all_mapped : {X Y : Type 0} (P : Y → Type 0) (f : X → Y) (xs : List X) → AllByRecursion (λ x. P (f x)) xs → AllByRecursion P (map f xs)
-all_mapped P f [] all = tt
-all_mapped P f (x ∷ xs) all = (all.0, all_mapped P f xs all.1)
 
 row_is : (m : ShardMap) (holder : Option (List ℕ)) (r : List ℕ × Row) → option_and_then (λ key. option_map (λ row. (key, row)) (m.row key)) holder ≡ Some r → m.row r.0 ≡ Some r.1
 row_is m None r is = absurd (let both : None ≡ Some r = is in cc)

@@ -11,11 +11,11 @@ use Rattle.gor_model.specs.declared.start.Row.{Row}
 use Rattle.gor_model.specs.Starts.{row_in, AreApart}
 use Rattle.gor_model.specs.PlainMap.{with_kept, kept_row_after, grown_row}
 use Rattle.gor_model.proofs.SlotLaws.{bytes_tell}
+use Rattle.gor_model.proofs.Lists.{all_weaker, all_filter}
 use Rattle.gor_image.specs.Records.{Files}
 use Rattle.gor_image.specs.Recovery.{Names, ShardMap, recovered, filled, next_of, counted_keys, log_records, counts}
 use Rattle.gor_image.specs.Holding.{RecoverTo, IsFit, Stand, row_at, rows_of, start_of, IsKeyUidBelow}
 use Rattle.gor_image.proofs.Filled.{kept_kept}
-use Rattle.gor_image.proofs.Lists.{all_weaker, all_filter}
 use Rattle.gor_image.proofs.Reading.{AreRead, are_read}
 
 -- what the rows of a map and its slots have to do with one another

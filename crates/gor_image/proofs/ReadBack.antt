@@ -17,6 +17,7 @@ use Rattle.gor_keys.specs.Spelling.{last_slot, series, record_spelling}
 use Rattle.gor_keys.specs.Reading.{Keys, keys_in, records_in, record_in, series_in, delete_in, in_unit, created, living, is_slot, is_floor, floor_in, name_at, name_len, name_in}
 use Rattle.gor_name.specs.NameTest.{is_name}
 use Rattle.gor_model.specs.declared.wrong.Wrong.TheVariants.{Kind, Version}
+use Rattle.gor_model.proofs.FieldLaws.{bind_ok}
 use Rattle.gor_image.specs.Records.{Placed}
 use Rattle.gor_image.specs.Grammars.{and_then, from, mark_at, keys_at, keys_placed, is_of_millis}
 
@@ -33,10 +34,6 @@ only_where true f r a is = (refl, is)
 pub after_ok : {A B F : Type 0} (r : Result A F) (next : A → Result B F) (b : B) → and_then r next ≡ Ok b → (a : A) × (r ≡ Ok a) × (next a ≡ Ok b)
 after_ok (Ok a) next b is = (a, refl, is)
 after_ok (Err f) next b is = absurd (let both : Err f ≡ Ok b = is in cc)
-
-pub step_ok : {A B : Type 0} (r : Result A Misread) (next : A → Result B Misread) (b : B) → (r >>= next) ≡ Ok b → (a : A) × (r ≡ Ok a) × (next a ≡ Ok b)
-step_ok (Ok a) next b is = (a, refl, is)
-step_ok (Err f) next b is = absurd (let both : Err f ≡ Ok b = is in cc)
 
 pub from_ok : {A : Type 0} (at : ℕ) (r : Result A Misread) (a : A) → from at r ≡ Ok a → r ≡ Ok a
 from_ok at (Ok b) a is = let both : Ok b ≡ Ok a = is in let it : b ≡ a = cc in ap Ok it
@@ -132,7 +129,7 @@ delete_low unit at fields x is =
 made_low : (unit : TimeUnit) (at : ℕ) (fields : List ℕ) (make : Series → KeyRecord) (x : KeyRecord × ℕ) → ((s : Series) → s.slot ≤ last_slot unit → HasSlot unit (make s))
     → (series_in unit at fields >>= λ s. Ok (make s.0, s.1 + 1)) ≡ Ok x → HasSlot unit x.0
 made_low unit at fields make x low is =
-    let s = step_ok (series_in unit at fields) (λ s. Ok (make s.0, s.1 + 1)) x is in
+    let s = bind_ok (series_in unit at fields) (λ s. Ok (make s.0, s.1 + 1)) x is in
     let both : Ok (make s.0.0, s.0.1 + 1) ≡ Ok x = s.2 in
     let it : (make s.0.0, s.0.1 + 1) ≡ x = cc in
     subst (λ (y : KeyRecord × ℕ). HasSlot unit y.0) it (low s.0.0 (series_low unit at fields s.0 s.1))
@@ -159,8 +156,8 @@ unfolding each_within
 each_low unit live zero at bytes xs is = let both : Ok [] ≡ Ok xs = is in let it : [] ≡ xs = cc in subst (AllByRecursion (HasSlot unit)) it tt
 each_low unit live (suc count) at [] xs is = let both : Ok [] ≡ Ok xs = is in let it : [] ≡ xs = cc in subst (AllByRecursion (HasSlot unit)) it tt
 each_low unit live (suc count) at (b ∷ bytes) xs is =
-    let x = step_ok (record_in unit live at (b ∷ bytes)) (λ x. each_within (record_in unit live) count (at + x.1) (drop x.1 (b ∷ bytes)) >>= λ others. Ok (x.0 ∷ others)) xs is in
-    let others = step_ok (each_within (record_in unit live) count (at + x.0.1) (drop x.0.1 (b ∷ bytes))) (λ others. Ok (x.0.0 ∷ others)) xs x.2 in
+    let x = bind_ok (record_in unit live at (b ∷ bytes)) (λ x. each_within (record_in unit live) count (at + x.1) (drop x.1 (b ∷ bytes)) >>= λ others. Ok (x.0 ∷ others)) xs is in
+    let others = bind_ok (each_within (record_in unit live) count (at + x.0.1) (drop x.0.1 (b ∷ bytes))) (λ others. Ok (x.0.0 ∷ others)) xs x.2 in
     let both : Ok (x.0.0 ∷ others.0) ≡ Ok xs = others.2 in
     let it : x.0.0 ∷ others.0 ≡ xs = cc in
     subst (AllByRecursion (HasSlot unit)) it (record_low unit live at (b ∷ bytes) x.0 x.1, each_low unit live count (at + x.0.1) (drop x.0.1 (b ∷ bytes)) others.0 others.1)
@@ -178,7 +175,7 @@ keys_in_low live [] keys seconds is = absurd (cc)
 keys_in_low live (v ∷ rest) keys seconds is = first (v == 1) is where
   of_seconds : (records_in Second live rest >>= λ records. Ok (in_unit Second records)) ≡ Ok keys → AllByRecursion (HasSlot Second) keys.records
   of_seconds e =
-      let s = step_ok (records_in Second live rest) (λ records. Ok (in_unit Second records)) keys e in
+      let s = bind_ok (records_in Second live rest) (λ records. Ok (in_unit Second records)) keys e in
       let both : Ok (in_unit Second s.0) ≡ Ok keys = s.2 in
       let it : in_unit Second s.0 ≡ keys = cc in
       subst (λ (k : Keys). AllByRecursion (HasSlot Second) k.records) it (each_low Second live (length rest) 1 rest s.0 s.1)

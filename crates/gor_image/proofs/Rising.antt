@@ -8,6 +8,7 @@ use Rattle.std.proofs.lemmas.List.Elements.{filter_map-append}
 use Rattle.gor_model.specs.Windows.{slots_of_a_shard}
 use Rattle.gor_model.specs.declared.point.Point.{Point}
 use Rattle.gor_model.specs.declared.start.Row.{Row}
+use Rattle.gor_model.proofs.Lists.{all_weaker}
 use Rattle.gor_disk.specs.declared.disk.FileId.TheVariants.{Log, Block}
 use Rattle.gor_log.specs.declared.record.LogRecord.{LogRecord}
 use Rattle.gor_image.specs.Records.{Placed, Batch, BlockRow, Base, Files}
@@ -18,7 +19,6 @@ use Rattle.gor_image.specs.declared.fault.ImageFault.TheVariants.{Damage}
 use Rattle.gor_image.specs.Grammars.{and_then}
 use Rattle.gor_image.specs.Images.{Found, block_found, put_found, found_of, found_rise, row_held, rows_rise, rows_by_slot}
 use Rattle.gor_image.proofs.Core.{Rises}
-use Rattle.gor_image.proofs.Lists.{all_weaker}
 
 abbrev IsLater : Option ℕ → Point → Type 0
 IsLater last p = is_above last p.time ≡ true

@@ -1,12 +1,13 @@
 -- Key records that no batch covers change nothing of the map but the next number.
 use Rattle.std.proofs.Common.{◌≡◌, ℕ, ◌+◌, ◌<◌, ◌≤◌, List, [], ◌∷◌, ◌++◌, Bool, true, false, ◌&&◌, ◌||◌, refl, sym, ap, ◌∙◌, subst, arith}
-use Rattle.std.specs.Prelude.{filter, filter_map, map, nat_le, ⊤, MatchOption}
+use Rattle.std.specs.Prelude.{filter_map, map, nat_le, ⊤, MatchOption}
 use Rattle.std.specs.List.{AllByRecursion, list_any}
 use Rattle.std.proofs.lemmas.List.{append-nil}
 use Rattle.std.proofs.lemmas.List.Elements.{filter_map-append, filter-append}
 use Rattle.gor_model.specs.declared.event.Change.{Change}
 use Rattle.gor_model.specs.declared.start.Start.{Start}
 use Rattle.gor_model.specs.PlainMap.{greatest, next_change}
+use Rattle.gor_model.proofs.Lists.{all_behind, filter_none, all_paired, all_weaker, all_joined, all_unmapped}
 use Rattle.gor_keys.specs.declared.record.KeyRecord.{KeyRecord}
 use Rattle.gor_keys.specs.declared.record.KeyRecord.TheVariants.{Create, Delete, Live}
 use Rattle.gor_image.specs.Records.{Placed, Batch, Base, Files}
@@ -14,9 +15,8 @@ use Rattle.gor_image.specs.Recovery.{read_name, read_each, number_in, is_within,
 use Rattle.gor_image.specs.Holding.{RiseAbove, IsKeyUidBelow, IsUidBelow, Stand, HoldFit, with_keys}
 use Rattle.gor_image.specs.ChangeRecords.{key_records}
 use Rattle.gor_image.proofs.Core.{uid_above}
-use Rattle.gor_image.proofs.Lists.{all_weaker}
-use Rattle.gor_image.proofs.Append.{HasNumber, numbers_within, all_both}
-use Rattle.gor_image.proofs.AppendLaw.{upto_below, lasts_below, numbers_below, numbers_go, all_map, numbers_map, key_below, least_greatest, below_greatest, all_numbers}
+use Rattle.gor_image.proofs.Append.{HasNumber, numbers_within}
+use Rattle.gor_image.proofs.AppendLaw.{upto_below, lasts_below, numbers_below, numbers_go, numbers_map, key_below, least_greatest, below_greatest, all_numbers}
 
 -- no batch that ends before a number has it
 none_within : (m : ℕ) (batches : List Batch) → AllByRecursion (λ x. x < m) (map (λ b. b.last) batches) → list_any (is_within m) batches ≡ false
@@ -40,10 +40,6 @@ counts_not base batches n b (Create m s f name) upto lasts has = not_covered bas
 counts_not base batches n b (Delete m s) upto lasts has = not_covered base batches n m upto lasts has.0
 counts_not base batches n b (Live u s f name) upto lasts has = absurd has
 
-filter_none : {X : Type 0} (p : X → Bool) (xs : List X) → AllByRecursion (λ x. p x ≡ false) xs → filter p xs ≡ []
-filter_none p [] all = refl
-filter_none p (x ∷ xs) all = rw (all.0, filter_none p xs all.1) refl
-
 -- the greatest of more numbers is no less
 more_greatest : (n : ℕ) (xs ys : List ℕ) → greatest n xs ≤ greatest n (xs ++ ys)
 more_greatest n [] ys = least_greatest n ys
@@ -55,20 +51,12 @@ create_below bound (Create m s f name) a b has le = omega arith
 create_below bound (Delete m s) a b has le = tt
 create_below bound (Live u s f name) a b has le = absurd has
 
-pub right_all : {X : Type 0} (P : X → Type 0) (xs ys : List X) → AllByRecursion P (xs ++ ys) → AllByRecursion P ys
-right_all P [] ys all = all
-right_all P (x ∷ xs) ys all = right_all P xs ys all.1
-
-all_pair : {X : Type 0} (P Q R : X → Type 0) (xs : List X) → ((x : X) → P x → Q x → R x) → AllByRecursion P xs → AllByRecursion Q xs → AllByRecursion R xs
-all_pair P Q R [] f a b = tt
-all_pair P Q R (x ∷ xs) f a b = (f x a.0 b.0, all_pair P Q R xs f a.1 b.1)
-
 module _ (files : Files) (start : Start) (C E : List Change) (keys : List (Placed KeyRecord)) (stand : Stand files start C) (are : map (λ r. r.it) keys ≡ key_records start C E) where
   end : ℕ
   end = next_change start (E ++ C)
 
   numbered : AllByRecursion (λ r. HasNumber (next_change start C) (next_change start (E ++ C)) r.it) keys
-  numbered = all_map (HasNumber (next_change start C) (next_change start (E ++ C))) (λ (r : Placed KeyRecord). r.it) keys
+  numbered = all_unmapped (HasNumber (next_change start C) (next_change start (E ++ C))) (λ (r : Placed KeyRecord). r.it) keys
       (subst (λ l. AllByRecursion (HasNumber (next_change start C) (next_change start (E ++ C))) l) (sym are) (numbers_within start C E))
 
   pub same_counted : counted_keys (with_keys files keys) ≡ counted_keys files
@@ -89,9 +77,9 @@ module _ (files : Files) (start : Start) (C E : List Change) (keys : List (Place
   new_below : AllByRecursion (λ (r : Placed KeyRecord). IsKeyUidBelow (next_of (with_keys files keys)) r.it) keys
   new_below =
       let all = below_greatest (greatest files.base.upto (map (λ b. b.last) files.batches)) (filter_map (λ (r : Placed KeyRecord). number_in r.it) (files.keys ++ keys)) in
-      let each = right_all (λ (r : Placed KeyRecord). MatchOption (number_in r.it) ⊤ (λ m. m ≤ greatest (greatest files.base.upto (map (λ b. b.last) files.batches)) (filter_map (λ (r : Placed KeyRecord). number_in r.it) (files.keys ++ keys)))) files.keys keys
+      let each = all_behind (λ (r : Placed KeyRecord). MatchOption (number_in r.it) ⊤ (λ m. m ≤ greatest (greatest files.base.upto (map (λ b. b.last) files.batches)) (filter_map (λ (r : Placed KeyRecord). number_in r.it) (files.keys ++ keys)))) files.keys keys
       (all_numbers (λ m. m ≤ greatest (greatest files.base.upto (map (λ b. b.last) files.batches)) (filter_map (λ (r : Placed KeyRecord). number_in r.it) (files.keys ++ keys))) (files.keys ++ keys) all) in
-      all_pair (λ (r : Placed KeyRecord). HasNumber (next_change start C) (next_change start (E ++ C)) r.it)
+      all_paired (λ (r : Placed KeyRecord). HasNumber (next_change start C) (next_change start (E ++ C)) r.it)
       (λ (r : Placed KeyRecord). MatchOption (number_in r.it) ⊤ (λ m. m ≤ greatest (greatest files.base.upto (map (λ b. b.last) files.batches)) (filter_map (λ (r : Placed KeyRecord). number_in r.it) (files.keys ++ keys))))
       (λ (r : Placed KeyRecord). IsKeyUidBelow (next_of (with_keys files keys)) r.it) keys
       (λ r has le. create_below (greatest (greatest files.base.upto (map (λ b. b.last) files.batches)) (filter_map (λ (r : Placed KeyRecord). number_in r.it) (files.keys ++ keys))) r.it (next_change start C) (next_change start (E ++ C)) has le) numbered each
@@ -113,7 +101,7 @@ module _ (files : Files) (start : Start) (C E : List Change) (keys : List (Place
     fit = record {
       floors = stand.fit.floors;
       uids_differ = stand.fit.uids_differ;
-      key_uids = all_both (λ (r : Placed KeyRecord). IsKeyUidBelow (next_of (with_keys files keys)) r.it) files.keys keys
+      key_uids = all_joined (λ (r : Placed KeyRecord). IsKeyUidBelow (next_of (with_keys files keys)) r.it) files.keys keys
           (all_weaker (λ (r : Placed KeyRecord). IsKeyUidBelow (next_of files) r.it) (λ (r : Placed KeyRecord). IsKeyUidBelow (next_of (with_keys files keys)) r.it) files.keys
           (λ r h. key_below (next_of files) (next_of (with_keys files keys)) next_no_less r.it h) stand.fit.key_uids) new_below;
       log_uids = all_weaker (IsUidBelow (next_of files)) (IsUidBelow (next_of (with_keys files keys))) (log_records files.batches) (uid_above (next_of files) (next_of (with_keys files keys)) next_no_less) stand.fit.log_uids;

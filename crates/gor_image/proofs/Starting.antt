@@ -11,6 +11,7 @@ use Rattle.gor_model.specs.declared.start.Row.{Row}
 use Rattle.gor_model.specs.Starts.{IsFloor, IsRow, IsStart}
 use Rattle.gor_model.specs.PlainMap.{greatest}
 use Rattle.gor_model.proofs.SlotLaws.{bytes_tell}
+use Rattle.gor_model.proofs.Lists.{all_weaker, all_filter, all_joined}
 use Rattle.gor_keys.specs.declared.record.KeyRecord.{KeyRecord}
 use Rattle.gor_keys.specs.declared.record.KeyRecord.TheVariants.{Create, Delete, Live}
 use Rattle.gor_log.specs.declared.record.LogRecord.{LogRecord}
@@ -19,8 +20,6 @@ use Rattle.gor_image.specs.Records.{Placed, BlockRow, Base, Files}
 use Rattle.gor_image.specs.Recovery.{Names, WrongName, WrongSlot, SameName, recovered, with_name, without_name, named, freed, read_name, and_at, read_each, no_names, counts, counted_keys, names_of, log_records, points_of, put_point, block_points, seal_end, floor_end, base_end, is_above, filled, next_of}
 use Rattle.gor_image.specs.Holding.{RecoverTo, rows_of, start_of}
 use Rattle.gor_image.proofs.Core.{Rises}
-use Rattle.gor_image.proofs.Lists.{all_weaker, all_filter}
-use Rattle.gor_image.proofs.Append.{all_both}
 use Rattle.gor_image.proofs.Opening.{Fits, rows_apart, rows_are}
 
 -- ---- each row of names that were read has what its record has
@@ -139,7 +138,7 @@ puts_in base uid (Seal u w ∷ log) all = puts_in base uid log all.1
 
 blocks_in : (uid : ℕ) (blocks : List BlockRow) → AllByRecursion (λ b. AllByRecursion IsTimely b.points) blocks → AllByRecursion IsTimely (flat_map (block_points uid) blocks)
 blocks_in uid [] all = tt
-blocks_in uid (b ∷ blocks) all = all_both IsTimely (block_points uid b) (flat_map (block_points uid) blocks) (own (nat_eq uid b.uid)) (blocks_in uid blocks all.1) where
+blocks_in uid (b ∷ blocks) all = all_joined IsTimely (block_points uid b) (flat_map (block_points uid) blocks) (own (nat_eq uid b.uid)) (blocks_in uid blocks all.1) where
   own : (same : Bool) → AllByRecursion IsTimely (if same then b.points else [])
   own true = all.0
   own false = tt
@@ -194,6 +193,6 @@ module _ (files : Files) (names : Names) (slots : ℕ) (recover : RecoverTo file
             floor = greatest_floor x.floor (filter_map (seal_end x.uid) (log_records files.batches)) own.3 (seals_in x.uid (log_records files.batches) limits.log);
             rising = kept_rises _ (points_of files.base files.blocks (log_records files.batches) x.uid) (recover.rising k x e);
             timely = all_filter IsTimely (is_kept (filled files.base files.blocks (log_records files.batches) x).floor) (points_of files.base files.blocks (log_records files.batches) x.uid)
-                (all_both IsTimely (flat_map (block_points x.uid) files.blocks) (filter_map (put_point files.base x.uid) (log_records files.batches)) (blocks_in x.uid files.blocks limits.blocks) (puts_in files.base x.uid (log_records files.batches) limits.log));
+                (all_joined IsTimely (flat_map (block_points x.uid) files.blocks) (filter_map (put_point files.base x.uid) (log_records files.batches)) (blocks_in x.uid files.blocks limits.blocks) (puts_in files.base x.uid (log_records files.batches) limits.log));
             kept = all_kept (filled files.base files.blocks (log_records files.batches) x).floor (points_of files.base files.blocks (log_records files.batches) x.uid);
           })

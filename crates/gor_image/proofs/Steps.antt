@@ -5,11 +5,12 @@ use Rattle.std.specs.Str.{bytes_eq}
 use Rattle.std.proofs.lemmas.Bool.Decides.{eqb_tells}
 use Rattle.gor_model.specs.declared.start.Row.{Row}
 use Rattle.gor_model.proofs.SlotLaws.{bytes_tell}
+use Rattle.gor_model.proofs.Lists.{all_push, all_weaker}
 use Rattle.gor_log.specs.declared.record.LogRecord.{LogRecord}
 use Rattle.gor_image.specs.Records.{BlockRow, Base}
 use Rattle.gor_image.specs.Recovery.{points_of, Names, with_name, without_name}
 use Rattle.gor_image.specs.Holding.{IsUidBelow}
-use Rattle.gor_image.proofs.Lists.{all_append, all_weaker, no_puts, no_blocks}
+use Rattle.gor_image.proofs.Lists.{no_puts, no_blocks}
 use Rattle.gor_image.proofs.Core.{Rises, NamesFit, uid_above}
 
 module _ (base : Base) (blocks : List BlockRow) (n : ℕ) (names : Names) (log : List LogRecord) (fit : NamesFit base blocks n names log) where
@@ -22,7 +23,7 @@ module _ (base : Base) (blocks : List BlockRow) (n : ℕ) (names : Names) (log :
     holds = fit.holds;
     differ = fit.differ;
     below = λ k r is. let h = fit.below k r is in omega arith;
-    log_below = all_append (IsUidBelow m) log x (all_weaker (IsUidBelow n) (IsUidBelow m) log (uid_above n m le) fit.log_below) below;
+    log_below = all_push (IsUidBelow m) log x (all_weaker (IsUidBelow n) (IsUidBelow m) log (uid_above n m le) fit.log_below) below;
     block_below = all_weaker (λ b. b.uid < n) (λ b. b.uid < m) blocks (λ b h. omega arith) fit.block_below;
     rising = rises;
   }

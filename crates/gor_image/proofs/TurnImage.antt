@@ -1,5 +1,5 @@
 -- The mark law for images: with the mark an image that has the new files holds the state by them.
-use Rattle.std.proofs.Common.{◌≡◌, ◌≢◌, ℕ, ◌+◌, ◌<◌, ◌≤◌, List, [], ◌∷◌, ◌++◌, false, Option, Some, refl, sym, ap, ◌∙◌, subst, unwrap_or}
+use Rattle.std.proofs.Common.{◌≡◌, ◌≢◌, ℕ, ◌+◌, ◌<◌, ◌≤◌, List, [], ◌∷◌, ◌++◌, false, Option, Some, refl, sym, ap, ◌∙◌, subst}
 use Rattle.std.specs.Prelude.{Ok, nat_lt, nat_eq, not, filter_map}
 use Rattle.std.proofs.lemmas.List.Elements.{filter_map-append}
 use Rattle.gor_disk.specs.declared.disk.FileId.TheVariants.{Marks, Keys}
@@ -11,6 +11,7 @@ use Rattle.gor_model.specs.declared.start.Start.{Start}
 use Rattle.gor_model.specs.Names.{key_of}
 use Rattle.gor_model.specs.PlainMap.{last_of, next_change}
 use Rattle.gor_model.specs.Windows.{slots_of_a_shard}
+use Rattle.gor_model.proofs.Lists.{last_push}
 use Rattle.gor_marks.specs.declared.mark.Mark.{Mark}
 use Rattle.gor_marks.specs.declared.mark.Mark.TheVariants.{Home, Sealed}
 use Rattle.gor_marks.specs.Reading.{mark_in}
@@ -33,10 +34,6 @@ use Rattle.gor_image.proofs.Pushed.{gated_more}
 use Rattle.gor_image.proofs.ReadBack.{unless}
 use Rattle.gor_image.proofs.SameLists.{files_same}
 use Rattle.gor_image.proofs.Turned.{mark_law}
-
-last_push : {X : Type 0} (xs : List X) (x : X) → last_of (xs ++ x ∷ []) ≡ Some x
-last_push [] x = refl
-last_push {X} (y ∷ xs) x = ap (λ (o : Option X). Some (unwrap_or o y)) (last_push xs x)
 
 window_push : (s : List Mark) (w k u f : ℕ) → (base_of (s ++ Sealed w k u f ∷ [])).window ≡ Some w
 window_push s w k u f = ap last_of (filter_map-append sealed_window s (Sealed w k u f ∷ [])) ∙ last_push (filter_map sealed_window s) w

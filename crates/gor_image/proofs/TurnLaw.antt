@@ -12,6 +12,7 @@ use Rattle.gor_model.specs.declared.start.Row.{Row}
 use Rattle.gor_model.specs.Starts.{row_in, AreApart}
 use Rattle.gor_model.specs.PlainMap.{greatest}
 use Rattle.gor_model.proofs.SlotLaws.{bytes_tell}
+use Rattle.gor_model.proofs.Lists.{all_behind}
 use Rattle.gor_log.specs.declared.record.LogRecord.{LogRecord}
 use Rattle.gor_image.specs.Records.{BlockRow, Base}
 use Rattle.gor_image.specs.Recovery.{Names, WrongName, with_name, named, read_name, seal_end, points_of, filled}
@@ -20,7 +21,6 @@ use Rattle.gor_image.proofs.Core.{Rises}
 use Rattle.gor_image.proofs.Filled.{row_same}
 use Rattle.gor_image.proofs.Reading.{read_plain, and_next}
 use Rattle.gor_image.proofs.AppendLaw.{below_greatest, greatest_bound}
-use Rattle.gor_image.proofs.Stale.{right_all}
 use Rattle.gor_image.proofs.MarkLaw.{turned_points}
 
 -- ---- a row
@@ -41,7 +41,7 @@ module _ (base : Base) (w upto : ℕ) (blocks fresh : List BlockRow) (dropped re
         old_floor = greatest x.floor (filter_map (seal_end x.uid) (dropped ++ remaining))
 
         seals_low : AllByRecursion (λ s. s ≤ greatest x.floor (filter_map (seal_end x.uid) (dropped ++ remaining))) (filter_map (seal_end x.uid) remaining)
-        seals_low = right_all (λ s. s ≤ greatest x.floor (filter_map (seal_end x.uid) (dropped ++ remaining))) (filter_map (seal_end x.uid) dropped) (filter_map (seal_end x.uid) remaining)
+        seals_low = all_behind (λ s. s ≤ greatest x.floor (filter_map (seal_end x.uid) (dropped ++ remaining))) (filter_map (seal_end x.uid) dropped) (filter_map (seal_end x.uid) remaining)
             (subst (λ l. AllByRecursion (λ s. s ≤ greatest x.floor (filter_map (seal_end x.uid) (dropped ++ remaining))) l) (filter_map-append (seal_end x.uid) dropped remaining) (below_greatest x.floor (filter_map (seal_end x.uid) (dropped ++ remaining))))
 
         least : (n : ℕ) (xs : List ℕ) → n ≤ greatest n xs

@@ -13,6 +13,7 @@ use Rattle.gor_model.specs.declared.start.Row.{Row}
 use Rattle.gor_model.specs.declared.start.Start.{Start}
 use Rattle.gor_model.specs.Starts.{row_in}
 use Rattle.gor_model.specs.PlainMap.{greatest, next_change}
+use Rattle.gor_model.proofs.Lists.{all_weaker, all_filter, all_joined, filter_all, all_unmapped, all_mapped, all_behind}
 use Rattle.gor_keys.specs.declared.record.KeyRecord.{KeyRecord}
 use Rattle.gor_keys.specs.declared.record.KeyRecord.TheVariants.{Create, Delete, Live}
 use Rattle.gor_log.specs.declared.record.LogRecord.{LogRecord}
@@ -22,11 +23,8 @@ use Rattle.gor_image.specs.Recovery.{ShardMap, recovered, read_name, read_each, 
 use Rattle.gor_image.specs.Holding.{Stand, RiseAbove, BatchesRise, IsUidBelow, IsKeyUidBelow, rows_of}
 use Rattle.gor_image.specs.Turns.{IsCopied, is_live, bare, live_record, Turned}
 use Rattle.gor_image.proofs.Core.{Rises}
-use Rattle.gor_image.proofs.Lists.{all_weaker, all_filter}
-use Rattle.gor_image.proofs.Append.{all_both}
 use Rattle.gor_image.proofs.Reading.{each_plain, read_plain}
-use Rattle.gor_image.proofs.AppendLaw.{below_greatest, greatest_bound, least_greatest, numbers_map, filter_all, all_map, map_all}
-use Rattle.gor_image.proofs.Stale.{right_all}
+use Rattle.gor_image.proofs.AppendLaw.{below_greatest, greatest_bound, least_greatest, numbers_map}
 use Rattle.gor_image.proofs.Opening.{Fits, fits, rows_apart, rows_found, rows_are, read}
 use Rattle.gor_image.proofs.TurnLaw.{turned_row, AreFree, LiveRead, live_read}
 
@@ -92,7 +90,7 @@ module _ (old new : Files) (start : Start) (C : List Change) (stand : Stand old 
   floor_same = ap (λ (b : Base). floor_of b (log_records new.batches)) turned.base ∙ omega (arith, high, low, turned.shard_at_end) where
     floors_low : AllByRecursion (λ f. f ≤ window_end w) (filter_map floor_end (log_records new.batches))
     floors_low = subst (λ m. AllByRecursion (λ f. f ≤ m) (filter_map floor_end (log_records new.batches))) turned.shard_at_end
-        (right_all (λ f. f ≤ floor_of old.base (log_records old.batches)) (filter_map floor_end (log_records turned.dropped)) (filter_map floor_end (log_records new.batches))
+        (all_behind (λ f. f ≤ floor_of old.base (log_records old.batches)) (filter_map floor_end (log_records turned.dropped)) (filter_map floor_end (log_records new.batches))
         (subst (λ l. AllByRecursion (λ f. f ≤ floor_of old.base (log_records old.batches)) l) (ap (filter_map floor_end) log_is ∙ filter_map-append floor_end (log_records turned.dropped) (log_records new.batches))
         (below_greatest (base_end old.base.window) (filter_map floor_end (log_records old.batches)))))
 
@@ -111,7 +109,7 @@ module _ (old new : Files) (start : Start) (C : List Change) (stand : Stand old 
         lasts : AllByRecursion (λ l. l ≤ upto) (map (λ (b : Batch). b.last) new.batches)
         lasts = all_weaker (λ l. l ≤ greatest old.base.upto (map (λ (b : Batch). b.last) old.batches)) (λ l. l ≤ upto) (map (λ (b : Batch). b.last) new.batches)
             (λ l h. let more = least_greatest (greatest old.base.upto (map (λ (b : Batch). b.last) old.batches)) (filter_map (λ (r : Placed KeyRecord). number_in r.it) old.keys) in let e = turned.all_taken in omega arith)
-            (right_all (λ l. l ≤ greatest old.base.upto (map (λ (b : Batch). b.last) old.batches)) (map (λ (b : Batch). b.last) turned.dropped) (map (λ (b : Batch). b.last) new.batches)
+            (all_behind (λ l. l ≤ greatest old.base.upto (map (λ (b : Batch). b.last) old.batches)) (map (λ (b : Batch). b.last) turned.dropped) (map (λ (b : Batch). b.last) new.batches)
             (subst (λ l. AllByRecursion (λ x. x ≤ greatest old.base.upto (map (λ (b : Batch). b.last) old.batches)) l)
             (ap (map (λ (b : Batch). b.last)) turned.logs ∙ map-append (λ (b : Batch). b.last) turned.dropped new.batches) (below_greatest old.base.upto (map (λ (b : Batch). b.last) old.batches))))
 
@@ -136,7 +134,7 @@ module _ (old new : Files) (start : Start) (C : List Change) (stand : Stand old 
 
   counted_all : counted_keys new ≡ new.keys
   counted_all = filter_all (λ (r : Placed KeyRecord). counts new.base new.batches r.it) new.keys
-      (all_map (λ r. counts new.base new.batches r ≡ true) (λ (r : Placed KeyRecord). r.it) new.keys
+      (all_unmapped (λ r. counts new.base new.batches r ≡ true) (λ (r : Placed KeyRecord). r.it) new.keys
       (subst (λ l. AllByRecursion (λ r. counts new.base new.batches r ≡ true) l) (sym turned.key_list) (all_live new.base new.batches (rows_of (recovered old stand.names)))))
 
   row_uid : (k : List ℕ) (r : Row) → (recovered old stand.names).row k ≡ Some r → r.uid < next_of old
@@ -147,7 +145,7 @@ module _ (old new : Files) (start : Start) (C : List Change) (stand : Stand old 
         subst (λ (y : Row). y.uid < next_of old) it ((read old stand.names 0 stand.recover stand.fit low_slots).below k x e)
 
   live_uids : AllByRecursion (IsKeyUidBelow (next_of old)) (map live_record (rows_of (recovered old stand.names)))
-  live_uids = map_all (IsKeyUidBelow (next_of old)) live_record (rows_of (recovered old stand.names))
+  live_uids = all_mapped (IsKeyUidBelow (next_of old)) live_record (rows_of (recovered old stand.names))
       (all_weaker (λ (r : List ℕ × Row). (recovered old stand.names).row r.0 ≡ Some r.1) (λ (r : List ℕ × Row). r.1.uid < next_of old) (rows_of (recovered old stand.names)) (λ r is. row_uid r.0 r.1 is) (rows_are (recovered old stand.names)))
 
   -- the new files hold the same state and are fit, and their next number is the one behind `upto`
@@ -166,12 +164,12 @@ module _ (old new : Files) (start : Start) (C : List Change) (stand : Stand old 
           let high : floor_of new.base (log_records new.batches) ≡ window_end w = floor_same ∙ turned.shard_at_end in
           let low : base_end new.base.window ≡ window_end w = ap (λ (b : Base). base_end b.window) turned.base in (omega arith, omega arith);
       uids_differ = λ k l r o is_r is_o same. stand.fit.uids_differ k l r o (sym (rows_same k) ∙ is_r) (sym (rows_same l) ∙ is_o) same;
-      key_uids = all_map (IsKeyUidBelow (next_of new)) (λ (r : Placed KeyRecord). r.it) new.keys
+      key_uids = all_unmapped (IsKeyUidBelow (next_of new)) (λ (r : Placed KeyRecord). r.it) new.keys
           (subst (λ l. AllByRecursion (IsKeyUidBelow (next_of new)) l) (sym turned.key_list) (all_weaker (IsKeyUidBelow (next_of old)) (IsKeyUidBelow (next_of new)) (map live_record (rows_of (recovered old stand.names))) key_later live_uids));
       log_uids = all_weaker (IsUidBelow (next_of old)) (IsUidBelow (next_of new)) (log_records new.batches) log_later
-          (right_all (IsUidBelow (next_of old)) (log_records turned.dropped) (log_records new.batches) (subst (λ l. AllByRecursion (IsUidBelow (next_of old)) l) log_is stand.fit.log_uids));
+          (all_behind (IsUidBelow (next_of old)) (log_records turned.dropped) (log_records new.batches) (subst (λ l. AllByRecursion (IsUidBelow (next_of old)) l) log_is stand.fit.log_uids));
       block_uids = all_weaker (λ (b : BlockRow). b.uid < next_of old) (λ (b : BlockRow). b.uid < next_of new) new.blocks (λ b below. let more = next_low in omega arith) (subst (λ l. AllByRecursion (λ (b : BlockRow). b.uid < next_of old) l) (sym turned.blocks)
-          (all_both (λ (b : BlockRow). b.uid < next_of old) (filter (is_live w) old.blocks) turned.fresh (all_filter (λ (b : BlockRow). b.uid < next_of old) (is_live w) old.blocks stand.fit.block_uids) turned.fresh_uids));
+          (all_joined (λ (b : BlockRow). b.uid < next_of old) (filter (is_live w) old.blocks) turned.fresh (all_filter (λ (b : BlockRow). b.uid < next_of old) (is_live w) old.blocks stand.fit.block_uids) turned.fresh_uids));
     };
     next = let e = next_new in omega (arith, taken);
   } where

@@ -6,12 +6,12 @@ use Rattle.gor_model.specs.declared.event.Change.{Change}
 use Rattle.gor_model.specs.declared.start.Row.{Row}
 use Rattle.gor_model.specs.declared.start.Start.{Start}
 use Rattle.gor_model.specs.PlainMap.{row_after, next_change, with_kept}
+use Rattle.gor_model.proofs.Lists.{all_weaker, all_filter}
 use Rattle.gor_log.specs.declared.record.LogRecord.{LogRecord}
 use Rattle.gor_image.specs.Records.{BlockRow, Base, Files}
 use Rattle.gor_image.specs.Recovery.{Names, number_in, counts, counted_keys, log_records, next_of, names_of, filled, base_end, recovered}
 use Rattle.gor_image.specs.Holding.{RiseAbove, BatchesRise, IsKeyUidBelow, IsUidBelow, Stand}
 use Rattle.gor_image.proofs.Core.{Core, Same, uid_above}
-use Rattle.gor_image.proofs.Lists.{all_weaker, all_filter}
 use Rattle.gor_image.proofs.Reading.{AreRead, are_read}
 
 module _ (base : Base) (blocks : List BlockRow) (log : List LogRecord) where

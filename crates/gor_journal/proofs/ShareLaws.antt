@@ -1,5 +1,5 @@
 -- A journal goes on standing for its share.
-use Rattle.std.proofs.Common.{◌≡◌, ℕ, ◌+◌, ◌-◌, List, [], ◌∷◌, ◌++◌, length, Option, false, refl, sym, ap, subst, ◌∙◌, arith}
+use Rattle.std.proofs.Common.{◌≡◌, ℕ, ◌+◌, ◌-◌, List, ◌∷◌, ◌++◌, length, Option, false, refl, sym, ap, subst, ◌∙◌, arith}
 use Rattle.std.specs.Prelude.{option_to_list, sum_by, map}
 use Rattle.std.specs.List.{flat_map, AllByRecursion}
 use Rattle.std.proofs.lemmas.List.{append-nil}
@@ -12,6 +12,7 @@ use Rattle.gor_model.specs.Shares.{Buffered, JournalShare}
 use Rattle.gor_model.specs.SharesAfter.{journal_with, journal_stopped}
 use Rattle.gor_model.specs.declared.event.Change.{Change}
 use Rattle.gor_model.specs.declared.unit.Unit.TheVariants.{Second}
+use Rattle.gor_model.proofs.Lists.{all_joined}
 use Rattle.gor_keys.specs.declared.record.KeyRecord.{KeyRecord}
 use Rattle.gor_keys.specs.declared.record.KeyRecord.TheVariants as key
 use Rattle.gor_keys.specs.Spelling.{IsRecord as IsKeyRecord, record_spelling as key_spelling}
@@ -25,10 +26,6 @@ use Rattle.gor_journal.specs.Records.{created, logged, point_window, key_records
 use Rattle.gor_journal.specs.Stands.{Stands}
 
 -- ---- lists
-
-all_joined : {X : Type 0} (P : X → Type 0) (xs ys : List X) → AllByRecursion P xs → AllByRecursion P ys → AllByRecursion P (xs ++ ys)
-all_joined P [] ys a b = b
-all_joined P (x ∷ xs) ys a b = (a.0, all_joined P xs ys a.1 b)
 
 turned : (a b : ℕ) → a + b ≡ b + a
 turned a b = omega arith

@@ -2,7 +2,8 @@
 use Rattle.std.specs.Prelude.{◌≡◌, ℕ, List, ◌∷◌, Some}
 use Rattle.gor_model.specs.Changes.{History, changed, changes}
 use Rattle.gor_model.specs.PlainMap.{next_change}
-use Rattle.gor_model.specs.Shares.{journal_share, besides_of as held_besides}
+use Rattle.gor_model.specs.Shares.{JournalShare, journal_share, besides_of as held_besides}
+use Rattle.gor_model.specs.SharesAfter.{journal_with}
 use Rattle.gor_model.specs.declared.event.Call.TheVariants as call
 use Rattle.gor_model.specs.declared.event.Event.{Event}
 use Rattle.gor_model.specs.declared.event.Reply.TheVariants as reply
@@ -31,3 +32,7 @@ pub record IsStop (start : Start) (H : History) (e : Event) : Type 0 where
 -- a journal that stood for the share of a history stands for that after one event more
 abbrev pub StandsAfter : Pending → Pending → (Start → History → Event → Type 0) → Type 0
 StandsAfter old new IsMadeFor = (start : Start) (H : History) (e : Event) → IsMadeFor start H e → Stands old (journal_share start H) → Stands new (journal_share start (e ∷ H))
+
+-- from any share that a journal stands for to that share with the change of this entry, which has this number
+abbrev pub AddsChange : ℕ → Entry → Pending → Pending → Type 0
+AddsChange number entry old new = (name key : List ℕ) (share : JournalShare) → Stands old share → Stands new (journal_with (change_of name key entry) (besides_of number entry) share)

@@ -1,24 +1,25 @@
 //! The journal of a shard: changes that wait for a flush.
 ghost use Rattle.std.specs.Prelude.{◌≡◌, ℕ, ◌+◌, ◌^◌, ◌<◌, ◌≤◌, [], false, IfOk, OnOk, List, vec_len, vec_capacity};
 ghost use Rattle.gor_model.specs.Shares.{JournalShare, journal_share};
-ghost use Rattle.gor_model.specs.SharesAfter.{journal_with, journal_taken, journal_stopped};
+ghost use Rattle.gor_model.specs.SharesAfter.{journal_taken, journal_stopped};
 ghost use Rattle.gor_model.specs.declared.start.Start.{Start};
 ghost use Rattle.gor_journal.specs.Bodies.{IsWaiting, AreEmpty, HoldAll, pending_of, with_entry, emptied, stopping, fresh};
-ghost use Rattle.gor_journal.specs.Entries.{InLimits, key_need, log_need, change_of, besides_of};
-ghost use Rattle.gor_journal.specs.Events.{Makes, IsTake, IsStop, StandsAfter};
+ghost use Rattle.gor_journal.specs.Entries.{InLimits, key_need, log_need};
+ghost use Rattle.gor_journal.specs.Events.{Makes, IsTake, IsStop, StandsAfter, AddsChange};
 ghost use Rattle.gor_journal.specs.Records.{first_number};
 ghost use Rattle.gor_journal.specs.Stands.{Stands, AreOf};
 
 use crate::buffers::Buffers;
 use crate::entry::{Entry, greater, key_need, log_need, weight_of, window_of};
 use crate::writing::{put_keys, put_log, put_range};
+use gor_model::DUE_WEIGHT;
 use gor_rule::Thing;
 use std::alloc::{AllocError, Global};
 use std::marker::Model;
 use std::mem;
 
-/// Room for the batch of a usual flush, which is due once the weight is 65,536.
-const LOG_ROOM: usize = 25 + 65_536 + 21 + 1;
+/// Room for the batch of a usual flush, which is due once the weight is `DUE_WEIGHT`.
+const LOG_ROOM: usize = 25 + DUE_WEIGHT as usize + 21 + 1;
 
 /// The changes of a shard that wait for the next flush, the number of the next one, and whether the shard is stopped.
 ///
@@ -130,7 +131,7 @@ impl Journal {
         requires buffered { self.old.pending.buffered < 2 ^ 50 }
         ensures number { result ≡ self.old.pending.next }
         ensures added { self.new.pending ≡ with_entry entry.now self.old.pending }
-        ensures stands { (name key : List ℕ) (share : JournalShare) → Stands self.old.pending share → Stands self.new.pending (journal_with (change_of name key entry.now) (besides_of result entry.now) share) }
+        ensures stands { AddsChange result entry.now self.old.pending self.new.pending }
         ensures after { StandsAfter self.old.pending self.new.pending (Makes entry.now) }
     {
         let number = self.next;

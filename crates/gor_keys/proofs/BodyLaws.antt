@@ -8,7 +8,7 @@ use Rattle.gor_model.specs.declared.unit.Unit.TheVariants.{Second, Milli}
 use Rattle.gor_model.specs.declared.wrong.Wrong.TheVariants.{Version, Kind}
 use Rattle.gor_model.specs.declared.wrong.Misread.{Misread}
 use Rattle.gor_model.specs.Fields.{IsBytes, wrong, ◌>>=◌}
-use Rattle.gor_model.proofs.FieldLaws.{bind_ok, and_true, ok_is, IsReader, Moves, each_takes, each_again}
+use Rattle.gor_model.proofs.FieldLaws.{bind_ok, and_true, ok_is, IsReader, Moves, each_takes, each_again, choice_ok}
 use Rattle.gor_keys.specs.declared.record.Series.{Series}
 use Rattle.gor_keys.specs.declared.record.KeyRecord.{KeyRecord}
 use Rattle.gor_keys.specs.declared.record.KeyRecord.TheVariants.{Create, Delete, Live}
@@ -17,11 +17,6 @@ use Rattle.gor_keys.specs.Reading.{name_at, series_in, delete_in, created, livin
 use Rattle.gor_keys.proofs.KeyLaws.{series_takes, series_again, fields_len, TakesRecord, delete_takes, delete_again, delete_moves, small_slot}
 
 -- ---- a record
-
--- a test that led on, or did not
-led : {A : Type 0} (b : Bool) (r s : Result A Misread) (y : A) → cond b r s ≡ Ok y → ((b ≡ true) × (r ≡ Ok y)) ⊎ ((b ≡ false) × (s ≡ Ok y))
-led true r s y e = inl (refl, e)
-led false r s y e = inr (refl, e)
 
 not_true : (b : Bool) → not b ≡ true → b ≡ false
 not_true true e = absurd cc
@@ -48,18 +43,18 @@ made_moves unit at fields make x e =
 pub record_moves : (unit : TimeUnit) (live : Bool) → Moves (record_in unit live)
 unfolding record_in
 record_moves unit live at [] x e = absurd cc
-record_moves unit live at (kind ∷ fields) x e = first (led (eqb kind 1 && not live) (Made unit at fields created) (after_create unit live at kind fields) x e) where
+record_moves unit live at (kind ∷ fields) x e = first (choice_ok (eqb kind 1 && not live) (Made unit at fields created) (after_create unit live at kind fields) x e) where
   third : ((eqb kind 3 && live) ≡ true) × (Made unit at fields living ≡ Ok x) ⊎ ((eqb kind 3 && live) ≡ false) × (wrong at Kind ≡ Ok x) → 1 ≤ x.1
   third (inl h) = made_moves unit at fields living x h.1
   third (inr h) = let k = h.1 in absurd cc
 
   second : ((eqb kind 2 && not live) ≡ true) × (delete_in unit at fields ≡ Ok x) ⊎ ((eqb kind 2 && not live) ≡ false) × (after_delete unit live at kind fields ≡ Ok x) → 1 ≤ x.1
   second (inl h) = delete_moves unit at fields x h.1
-  second (inr h) = third (led (eqb kind 3 && live) (Made unit at fields living) (wrong at Kind) x h.1)
+  second (inr h) = third (choice_ok (eqb kind 3 && live) (Made unit at fields living) (wrong at Kind) x h.1)
 
   first : ((eqb kind 1 && not live) ≡ true) × (Made unit at fields created ≡ Ok x) ⊎ ((eqb kind 1 && not live) ≡ false) × (after_create unit live at kind fields ≡ Ok x) → 1 ≤ x.1
   first (inl h) = made_moves unit at fields created x h.1
-  first (inr h) = second (led (eqb kind 2 && not live) (delete_in unit at fields) (after_delete unit live at kind fields) x h.1)
+  first (inr h) = second (choice_ok (eqb kind 2 && not live) (delete_in unit at fields) (after_delete unit live at kind fields) x h.1)
 
 from_series : (unit : TimeUnit) (live : Bool) (kind at : ℕ) (fields : List ℕ) (make : Series → KeyRecord) (x : KeyRecord × ℕ) → IsBytes fields
     → ((s : Series) → record_spelling unit (make s) ≡ kind ∷ series_fields unit s) → ((s : Series) → IsSeries unit s → IsRecord unit live (make s))
@@ -75,7 +70,7 @@ from_series unit live kind at fields make x fits spelled within e =
 record_takes : (unit : TimeUnit) (live : Bool) (at : ℕ) (bytes : List ℕ) (x : KeyRecord × ℕ) → IsBytes bytes → record_in unit live at bytes ≡ Ok x → TakesRecord unit live bytes x
 unfolding record_in
 record_takes unit live at [] x fits e = absurd cc
-record_takes unit live at (kind ∷ fields) x fits e = first (led (eqb kind 1 && not live) (Made unit at fields created) (after_create unit live at kind fields) x e) where
+record_takes unit live at (kind ∷ fields) x fits e = first (choice_ok (eqb kind 1 && not live) (Made unit at fields created) (after_create unit live at kind fields) x e) where
   of_kind : (k : ℕ) → eqb kind k ≡ true → TakesRecord unit live (k ∷ fields) x → TakesRecord unit live (kind ∷ fields) x
   of_kind k is h = subst (λ (n : ℕ). TakesRecord unit live (n ∷ fields) x) (sym (eqb-true kind k is)) h
 
@@ -88,11 +83,11 @@ record_takes unit live at (kind ∷ fields) x fits e = first (led (eqb kind 1 &&
 
   second : ((eqb kind 2 && not live) ≡ true) × (delete_in unit at fields ≡ Ok x) ⊎ ((eqb kind 2 && not live) ≡ false) × (after_delete unit live at kind fields ≡ Ok x) → TakesRecord unit live (kind ∷ fields) x
   second (inl h) = let k = and_true (eqb kind 2) (not live) h.0 in of_kind 2 k.0 (deleted (not_true live k.1) (delete_takes unit at fields x (behind kind fields fits) h.1).0)
-  second (inr h) = third (led (eqb kind 3 && live) (Made unit at fields living) (wrong at Kind) x h.1)
+  second (inr h) = third (choice_ok (eqb kind 3 && live) (Made unit at fields living) (wrong at Kind) x h.1)
 
   first : ((eqb kind 1 && not live) ≡ true) × (Made unit at fields created ≡ Ok x) ⊎ ((eqb kind 1 && not live) ≡ false) × (after_create unit live at kind fields ≡ Ok x) → TakesRecord unit live (kind ∷ fields) x
   first (inl h) = let k = and_true (eqb kind 1) (not live) h.0 in of_kind 1 k.0 (from_series unit live 1 at fields created x (behind kind fields fits) (λ s. refl) (λ s is. (not_true live k.1, is)) h.1)
-  first (inr h) = second (led (eqb kind 2 && not live) (delete_in unit at fields) (after_delete unit live at kind fields) x h.1)
+  first (inr h) = second (choice_ok (eqb kind 2 && not live) (delete_in unit at fields) (after_delete unit live at kind fields) x h.1)
 
 record_again : (unit : TimeUnit) (live : Bool) (at : ℕ) (it : KeyRecord) (rest : List ℕ) → IsRecord unit live it
     → (record_in unit live at (record_spelling unit it ++ rest) ≡ Ok (it, length (record_spelling unit it))) × (1 ≤ length (record_spelling unit it))
@@ -123,7 +118,7 @@ records_take unit live rest keys fits e =
 pub keys_take : (live : Bool) (body : List ℕ) (keys : Keys) → IsBytes body → keys_in live body ≡ Ok keys → AreRecords keys.unit live keys.records × (body ≡ spelling keys.unit keys.records)
 unfolding keys_in
 keys_take live [] keys fits e = absurd cc
-keys_take live (v ∷ rest) keys fits e = first (led (eqb v 1) (records_in Second live rest >>= λ records. Ok (in_unit Second records)) (cond (eqb v 2) (records_in Milli live rest >>= λ records. Ok (in_unit Milli records)) (wrong 0 Version)) keys e) where
+keys_take live (v ∷ rest) keys fits e = first (choice_ok (eqb v 1) (records_in Second live rest >>= λ records. Ok (in_unit Second records)) (cond (eqb v 2) (records_in Milli live rest >>= λ records. Ok (in_unit Milli records)) (wrong 0 Version)) keys e) where
   second : ((eqb v 2) ≡ true) × ((records_in Milli live rest >>= λ records. Ok (in_unit Milli records)) ≡ Ok keys) ⊎ ((eqb v 2) ≡ false) × (wrong 0 Version ≡ Ok keys)
       → AreRecords keys.unit live keys.records × (v ∷ rest ≡ spelling keys.unit keys.records)
   second (inl h) = subst (λ (n : ℕ). AreRecords keys.unit live keys.records × (n ∷ rest ≡ spelling keys.unit keys.records)) (sym (eqb-true v 2 h.0)) (records_take Milli live rest keys (behind v rest fits) h.1)
@@ -132,7 +127,7 @@ keys_take live (v ∷ rest) keys fits e = first (led (eqb v 1) (records_in Secon
   first : ((eqb v 1) ≡ true) × ((records_in Second live rest >>= λ records. Ok (in_unit Second records)) ≡ Ok keys) ⊎ ((eqb v 1) ≡ false) × (cond (eqb v 2) (records_in Milli live rest >>= λ records. Ok (in_unit Milli records)) (wrong 0 Version) ≡ Ok keys)
       → AreRecords keys.unit live keys.records × (v ∷ rest ≡ spelling keys.unit keys.records)
   first (inl h) = subst (λ (n : ℕ). AreRecords keys.unit live keys.records × (n ∷ rest ≡ spelling keys.unit keys.records)) (sym (eqb-true v 1 h.0)) (records_take Second live rest keys (behind v rest fits) h.1)
-  first (inr h) = second (led (eqb v 2) (records_in Milli live rest >>= λ records. Ok (in_unit Milli records)) (wrong 0 Version) keys h.1)
+  first (inr h) = second (choice_ok (eqb v 2) (records_in Milli live rest >>= λ records. Ok (in_unit Milli records)) (wrong 0 Version) keys h.1)
 
 -- the law of both ways: what was written is what is read
 pub keys_again : (unit : TimeUnit) (live : Bool) (records : List KeyRecord) → AreRecords unit live records → keys_in live (spelling unit records) ≡ Ok (in_unit unit records)

@@ -7,12 +7,14 @@ use Rattle.gor_model.specs.declared.unit.Unit.TheVariants.{Second, Milli}
 use Rattle.gor_model.specs.declared.wrong.Wrong.TheVariants.{Version, Kind, Short, Value}
 use Rattle.gor_model.specs.declared.wrong.Misread.{Misread}
 use Rattle.gor_model.specs.Fields.{number_in, is_number, wrong, ◌>>=◌, each_of}
+use Rattle.gor_fields.specs.declared.field_fault.FieldFault.{FieldFault}
+use Rattle.gor_fields.specs.Readings.{Gives}
 use Rattle.gor_name.specs.NameTest.{is_name}
 use Rattle.gor_keys.specs.declared.record.Series.{Series}
 use Rattle.gor_keys.specs.declared.record.KeyRecord.{KeyRecord}
 use Rattle.gor_keys.specs.declared.record.KeyRecord.TheVariants.{Create, Delete, Live}
 use Rattle.gor_keys.specs.declared.record.KeyBody.{KeyBody}
-use Rattle.gor_keys.specs.Spelling.{last_slot, floor_len, series}
+use Rattle.gor_keys.specs.Spelling.{last_slot, floor_len, series, spelling, AreRecords}
 
 -- ---- tests of limits
 
@@ -98,3 +100,7 @@ keys_in live (v ∷ rest) =
     if v == 1 then (records_in Second live rest >>= λ records. Ok (in_unit Second records))
     else if v == 2 then (records_in Milli live rest >>= λ records. Ok (in_unit Milli records))
     else wrong 0 Version
+
+-- whatever records this body spells are read of it, unless memory is wanting
+abbrev pub ReadsKeys : Bool → List ℕ → Result KeyBody FieldFault → Type 0
+ReadsKeys live body result = (unit : TimeUnit) (records : List KeyRecord) → AreRecords unit live records → body ≡ spelling unit records → Gives shown result (Ok (in_unit unit records))

@@ -6,7 +6,7 @@ ghost use Rattle.gor_name.specs.NameTest.{is_name};
 ghost use Rattle.gor_keys.specs.declared.record.KeyRecord.{KeyRecord};
 ghost use Rattle.gor_fields.specs.Readings.{Gives};
 ghost use Rattle.gor_keys.specs.Spelling.{AreRecords, floor_len, spelling};
-ghost use Rattle.gor_keys.specs.Reading.{is_slot, is_floor, floor_in, series_in, delete_in, record_in, records_in, keys_in, shown, in_unit, created, living};
+ghost use Rattle.gor_keys.specs.Reading.{is_slot, is_floor, floor_in, series_in, delete_in, record_in, records_in, keys_in, shown, in_unit, created, living, ReadsKeys};
 
 use crate::KeyFault;
 use crate::record::{KeyBody, KeyRecord, Series};
@@ -228,7 +228,7 @@ pub fn read_keys(alloc: Global, body: &[u8], live: bool) -> Result<KeyBody, KeyF
     // What is read is spelled so.
     ensures found { IfOk result (λ keys. AreRecords keys.unit live keys.records.items × (body.now ≡ spelling keys.unit keys.records.items)) }
     // What is spelled so is read, unless memory is wanting.
-    ensures only { (unit : TimeUnit) (records : List KeyRecord) → AreRecords unit live records → body.now ≡ spelling unit records → Gives shown result (Ok (in_unit unit records)) }
+    ensures only { ReadsKeys live body.now result }
     // Which fault it is.
     ensures exact { Gives shown result (keys_in live body.now) }
 {

@@ -1,5 +1,5 @@
 -- Records and batches: what is read is spelled so, and what is spelled so is read.
-use Rattle.std.proofs.Common.{◌≡◌, ℕ, suc, ◌+◌, ◌^◌, ◌≤◌, ◌⊎◌, inl, inr, Bool, true, false, cond, eqb, leb, ltb, List, [], ◌∷◌, ◌++◌, length, drop, Result, Ok, refl, sym, ap, subst, ◌∙◌, arith}
+use Rattle.std.proofs.Common.{◌≡◌, ℕ, suc, ◌+◌, ◌^◌, ◌≤◌, ◌⊎◌, inl, inr, true, false, cond, eqb, leb, ltb, List, [], ◌∷◌, ◌++◌, length, drop, Result, Ok, refl, sym, ap, subst, ◌∙◌, arith}
 use Rattle.std.specs.Prelude.{◌&&◌}
 use Rattle.std.specs.List.{flat_map, AllByRecursion}
 use Rattle.std.specs.Int.{w32, w64, to_be_bytes}
@@ -12,7 +12,7 @@ use Rattle.gor_model.specs.declared.wrong.Wrong.{Wrong}
 use Rattle.gor_model.specs.declared.wrong.Wrong.TheVariants.{Version, Kind, Short, Value}
 use Rattle.gor_model.specs.declared.wrong.Misread.{Misread}
 use Rattle.gor_model.specs.Fields.{IsBytes, number_in, is_number, is_window, wrong}
-use Rattle.gor_model.proofs.FieldLaws.{bind_ok, guard_ok, guard_held, and_true, ok_is, number_held, number_tested, number_parts, number_below, wide32, wide64, IsBytes-drop, IsReader, Moves, each_takes, each_again}
+use Rattle.gor_model.proofs.FieldLaws.{bind_ok, guard_ok, guard_held, and_true, ok_is, number_held, number_tested, number_parts, number_below, wide32, wide64, IsBytes-drop, IsReader, Moves, each_takes, each_again, choice_ok}
 use Rattle.gor_log.specs.declared.record.LogRecord.{LogRecord}
 use Rattle.gor_log.specs.declared.record.LogRecord.TheVariants.{Put, Floor, Seal}
 use Rattle.gor_log.specs.Spelling.{Batch, IsPut, IsSeal, IsRecord, IsRange, IsBatch, record_spelling, spelling}
@@ -126,10 +126,6 @@ seal_again at uid window rest is =
 
 -- ---- a record
 
-led : {A : Type 0} (b : Bool) (r s : Result A Misread) (y : A) → cond b r s ≡ Ok y → ((b ≡ true) × (r ≡ Ok y)) ⊎ ((b ≡ false) × (s ≡ Ok y))
-led true r s y e = inl (refl, e)
-led false r s y e = inr (refl, e)
-
 behind : (b : ℕ) (bytes : List ℕ) → IsBytes (b ∷ bytes) → IsBytes bytes
 behind b bytes fits i = fits (suc i)
 
@@ -143,18 +139,18 @@ after_put at kind fields = cond (eqb kind 2) (floor_in at fields) (after_floor a
 -- a record that was read is one of the three kinds
 of_kinds : (P : ℕ → Type 0) (at kind : ℕ) (fields : List ℕ) (x : LogRecord × ℕ) → (put_in at fields ≡ Ok x → P 1) → (floor_in at fields ≡ Ok x → P 2) → (seal_in at fields ≡ Ok x → P 3)
     → cond (eqb kind 1) (put_in at fields) (after_put at kind fields) ≡ Ok x → P kind
-of_kinds P at kind fields x put floor seal e = first (led (eqb kind 1) (put_in at fields) (after_put at kind fields) x e) where
+of_kinds P at kind fields x put floor seal e = first (choice_ok (eqb kind 1) (put_in at fields) (after_put at kind fields) x e) where
   third : ((eqb kind 3) ≡ true) × (seal_in at fields ≡ Ok x) ⊎ ((eqb kind 3) ≡ false) × (wrong at Kind ≡ Ok x) → P kind
   third (inl h) = subst P (sym (eqb-true kind 3 h.0)) (seal h.1)
   third (inr h) = let k = h.1 in absurd cc
 
   second : ((eqb kind 2) ≡ true) × (floor_in at fields ≡ Ok x) ⊎ ((eqb kind 2) ≡ false) × (after_floor at kind fields ≡ Ok x) → P kind
   second (inl h) = subst P (sym (eqb-true kind 2 h.0)) (floor h.1)
-  second (inr h) = third (led (eqb kind 3) (seal_in at fields) (wrong at Kind) x h.1)
+  second (inr h) = third (choice_ok (eqb kind 3) (seal_in at fields) (wrong at Kind) x h.1)
 
   first : ((eqb kind 1) ≡ true) × (put_in at fields ≡ Ok x) ⊎ ((eqb kind 1) ≡ false) × (after_put at kind fields ≡ Ok x) → P kind
   first (inl h) = subst P (sym (eqb-true kind 1 h.0)) (put h.1)
-  first (inr h) = second (led (eqb kind 2) (floor_in at fields) (after_floor at kind fields) x h.1)
+  first (inr h) = second (choice_ok (eqb kind 2) (floor_in at fields) (after_floor at kind fields) x h.1)
 
 pub record_moves : Moves record_in
 unfolding record_in
@@ -211,7 +207,7 @@ header_takes bytes b fits e =
 pub log_takes : (body : List ℕ) (b : Batch) → IsBytes body → log_in body ≡ Ok b → Spells body b
 unfolding log_in
 log_takes [] b fits e = absurd cc
-log_takes (version ∷ rest) b fits e = by (led (eqb version 1) (header_in rest) (wrong 0 Version) b e) where
+log_takes (version ∷ rest) b fits e = by (choice_ok (eqb version 1) (header_in rest) (wrong 0 Version) b e) where
   by : ((eqb version 1) ≡ true) × (header_in rest ≡ Ok b) ⊎ ((eqb version 1) ≡ false) × (wrong 0 Version ≡ Ok b) → Spells (version ∷ rest) b
   by (inl h) = subst (λ (v : ℕ). Spells (v ∷ rest) b) (sym (eqb-true version 1 h.0)) (header_takes rest b (behind version rest fits) h.1)
   by (inr h) = let k = h.1 in absurd cc

@@ -1,4 +1,3 @@
-pub mod OneOrder
 pub mod RoundLaws
 pub mod HeadLaws
 pub mod MergeSteps

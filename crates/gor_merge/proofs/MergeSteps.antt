@@ -9,6 +9,7 @@ use Rattle.gor_model.specs.Lists.{EachBefore}
 use Rattle.gor_model.specs.declared.point.Point.{Point}
 use Rattle.gor_model.specs.declared.point.Merged.{Merged}
 use Rattle.gor_model.specs.Merges.{ComesBefore, IsMerged, placed_from}
+use Rattle.gor_model.proofs.Lists.{all_joined, rising_push, all_weaker}
 use Rattle.gor_merge.specs.Heads.{TimesRise, head_of, heads_from, head_in, left, points_at, NotAfter, Wins}
 use Rattle.gor_merge.proofs.HeadLaws.{placed, length-heads, head_at_place, heads_set, begins, none_left, left_all, length-left, left_at, left_set}
 
@@ -26,21 +27,9 @@ pub record Merging (lists : List (List Point)) (taken : List ℕ) (heads : List 
 
 -- ---- lists
 
-both : {X : Type 0} (P : X → Type 0) (xs ys : List X) → AllByRecursion P xs → AllByRecursion P ys → AllByRecursion P (xs ++ ys)
-both P [] ys a b = b
-both P (x ∷ xs) ys a b = (a.0, both P xs ys a.1 b)
-
 parts : {X : Type 0} (P : X → Type 0) (xs ys : List X) → AllByRecursion P (xs ++ ys) → AllByRecursion P xs × AllByRecursion P ys
 parts P [] ys all = (tt, all)
 parts P (x ∷ xs) ys all = let rest = parts P xs ys all.1 in ((all.0, rest.0), rest.1)
-
-each : {X : Type 0} (P Q : X → Type 0) → ((x : X) → P x → Q x) → (xs : List X) → AllByRecursion P xs → AllByRecursion Q xs
-each P Q so [] all = tt
-each P Q so (x ∷ xs) all = (so x all.0, each P Q so xs all.1)
-
-pushed : {X : Type 0} (R : X → X → Type 0) (xs : List X) (y : X) → EachBefore R xs → AllByRecursion (λ x. R x y) xs → EachBefore R (xs ++ y ∷ [])
-pushed R [] y ordered all = (tt, tt)
-pushed R (x ∷ xs) y ordered all = (both (λ z. R x z) xs (y ∷ []) ordered.0 (all.0, tt), pushed R xs y ordered.1 all.1)
 
 dropped : {X : Type 0} (R : X → X → Type 0) (n : ℕ) (xs : List X) → EachBefore R xs → EachBefore R (drop n xs)
 dropped R zero xs ordered = ordered
@@ -70,11 +59,11 @@ split P p [] k x rest below is all = absurd (omega (arith, below))
 split P p (points ∷ lists) zero x rest below is all =
     let parted = parts P (map (placed p) points) (placed_from (p + 1) lists) all in
     let here = subst (λ (ps : List Point). AllByRecursion P (map (placed p) ps)) is parted.0 in
-    (subst (λ w. P (placed w x)) (omega arith) here.0, both P (map (placed p) rest) (placed_from (p + 1) lists) here.1 parted.1)
+    (subst (λ w. P (placed w x)) (omega arith) here.0, all_joined P (map (placed p) rest) (placed_from (p + 1) lists) here.1 parted.1)
 split P p (points ∷ lists) (suc k) x rest below is all =
     let parted = parts P (map (placed p) points) (placed_from (p + 1) lists) all in
     let inner = split P (p + 1) lists k x rest (omega (arith, below)) is parted.1 in
-    (subst (λ w. P (placed w x)) (omega arith) inner.0, both P (map (placed p) points) (placed_from (p + 1) (set lists k rest)) parted.0 inner.1)
+    (subst (λ w. P (placed w x)) (omega arith) inner.0, all_joined P (map (placed p) points) (placed_from (p + 1) (set lists k rest)) parted.0 inner.1)
 
 -- ---- the winner comes before all others
 
@@ -103,7 +92,7 @@ before_others : (m : Merged) (p : ℕ) (lists : List (List Point)) → ((k : ℕ
     → m.place < p → LeadsAll (placed_from p lists) m
 before_others m p [] rises first less = tt
 before_others m p (points ∷ lists) rises first less =
-    both (λ q. ComesBefore m q) (map (placed p) points) (placed_from (p + 1) lists)
+    all_joined (λ q. ComesBefore m q) (map (placed p) points) (placed_from (p + 1) lists)
     (before_list m p points (rises zero (omega arith)) (subst (λ w. NotAfter (Some m) (head_of w points)) (omega arith) (first zero (omega arith))) (λ is. omega (arith, is, less)))
     (before_others m (p + 1) lists (λ k below. rises (suc k) (omega (arith, below))) (λ k below. subst (λ w. NotAfter (Some m) (head_of w (points_at lists k))) (omega arith) (first (suc k) (omega (arith, below)))) (omega (arith, less)))
 
@@ -113,13 +102,13 @@ before_all p [] k x rest below is rises first = absurd (omega (arith, below))
 before_all p (points ∷ lists) zero x rest below is rises first =
     let m : Merged = placed (p + zero) x in
     let own = subst TimesRise is (rises zero (omega arith)) in
-    both (λ q. ComesBefore m q) (map (placed p) rest) (placed_from (p + 1) lists)
+    all_joined (λ q. ComesBefore m q) (map (placed p) rest) (placed_from (p + 1) lists)
     (subst (λ w. LeadsAll (map (placed p) rest) (placed w x)) (omega arith) (before_own x p rest own.0))
     (before_others m (p + 1) lists (λ i under. rises (suc i) (omega (arith, under))) (λ i under. subst (λ w. NotAfter (Some m) (head_of w (points_at lists i))) (omega arith) (first (suc i) (omega (arith, under)))) (omega arith))
 before_all p (points ∷ lists) (suc k) x rest below is rises first =
     let m : Merged = placed (p + suc k) x in
     let same : p + 1 + k ≡ p + suc k = omega arith in
-    both (λ q. ComesBefore m q) (map (placed p) points) (placed_from (p + 1) (set lists k rest))
+    all_joined (λ q. ComesBefore m q) (map (placed p) points) (placed_from (p + 1) (set lists k rest))
     (before_list m p points (rises zero (omega arith)) (subst (λ w. NotAfter (Some m) (head_of w points)) (omega arith) (first zero (omega arith))) (λ is. omega (arith, is)))
     (subst (λ w. LeadsAll (placed_from (p + 1) (set lists k rest)) (placed w x)) same
     (before_all (p + 1) lists k x rest (omega (arith, below)) is (λ i under. rises (suc i) (omega (arith, under)))
@@ -215,8 +204,8 @@ module _ (lists : List (List Point)) (taken : List ℕ) (heads : List (Option Me
       let rising : (i : ℕ) → i < length rests → TimesRise (points_at rests i) = λ i under. subst TimesRise (sym (left_at taken lists i now.places (omega (arith, under, rests_count)))) (dropped (λ p q. p.time < q.time) (get_or taken i 0) (points_at lists i) (rises i [] (omega (arith, under, rests_count)))) in
       let before : LeadsAll (placed_from 0 after) m = subst (λ w. LeadsAll (placed_from 0 after) w) itself (before_all 0 rests k m.point rest within f.is rising first) in
       let parted : (a : Merged) → LeadsAll (placed_from 0 rests) a → ComesBefore a (placed (0 + k) m.point) × LeadsAll (placed_from 0 after) a = λ a ahead. split (λ q. ComesBefore a q) 0 rests k m.point rest within f.is ahead in
-      let ordered : EachBefore ComesBefore (merged ++ m ∷ []) = pushed ComesBefore merged m now.ordered (each (LeadsAll (placed_from 0 rests)) (λ a. ComesBefore a m) (λ a ahead. subst (λ w. ComesBefore a w) itself (parted a ahead).0) merged now.earlier) in
-      let earlier : AllByRecursion (LeadsAll (placed_from 0 after)) (merged ++ m ∷ []) = both (LeadsAll (placed_from 0 after)) merged (m ∷ []) (each (LeadsAll (placed_from 0 rests)) (LeadsAll (placed_from 0 after)) (λ a ahead. (parted a ahead).1) merged now.earlier) (before, tt) in
+      let ordered : EachBefore ComesBefore (merged ++ m ∷ []) = rising_push ComesBefore merged m now.ordered (all_weaker (LeadsAll (placed_from 0 rests)) (λ a. ComesBefore a m) merged (λ a ahead. subst (λ w. ComesBefore a w) itself (parted a ahead).0) now.earlier) in
+      let earlier : AllByRecursion (LeadsAll (placed_from 0 after)) (merged ++ m ∷ []) = all_joined (LeadsAll (placed_from 0 after)) merged (m ∷ []) (all_weaker (LeadsAll (placed_from 0 rests)) (LeadsAll (placed_from 0 after)) merged (λ a ahead. (parted a ahead).1) now.earlier) (before, tt) in
       let next : heads2 ≡ heads_from 0 after = heads_are
       ∙ ap (λ (hs : List (Option Merged)). set hs k (head_of k (drop (n + 1) points))) now.next
       ∙ ap (λ (ps : List Point). set (heads_from 0 rests) k (head_of k ps)) rest_is

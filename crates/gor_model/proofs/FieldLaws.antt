@@ -1,5 +1,5 @@
 -- Numbers that are read are the numbers that were written, and records one after another go both ways.
-use Rattle.std.proofs.Common.{◌≡◌, ℕ, zero, suc, ◌+◌, ◌-◌, ◌^◌, ◌<◌, ◌≤◌, Bool, true, false, cond, leb, ltb, List, [], ◌∷◌, ◌++◌, length, take, drop, Result, Ok, Err, refl, sym, ap, subst, ◌∙◌, append_assoc, arith, inl, inr}
+use Rattle.std.proofs.Common.{◌≡◌, ◌⊎◌, inl, inr, ℕ, zero, suc, ◌+◌, ◌-◌, ◌^◌, ◌<◌, ◌≤◌, Bool, true, false, cond, leb, ltb, List, [], ◌∷◌, ◌++◌, length, take, drop, Result, Ok, Err, refl, sym, ap, subst, ◌∙◌, append_assoc, arith}
 use Rattle.std.specs.Prelude.{not, ◌&&◌, OnOk}
 use Rattle.std.specs.Cmp.Derive.{both_true}
 use Rattle.std.specs.List.{flat_map, AllByRecursion}
@@ -33,6 +33,11 @@ bind_ok (Err d) next y e = absurd cc
 pub guard_ok : {A : Type 0} (b : Bool) (d : Misread) (r : Result A Misread) (y : A) → cond b (Err d) r ≡ Ok y → (b ≡ false) × (r ≡ Ok y)
 guard_ok true d r y e = absurd cc
 guard_ok false d r y e = (refl, e)
+
+-- a choice that read something, by the side that read it
+pub choice_ok : {A : Type 0} (b : Bool) (r s : Result A Misread) (y : A) → cond b r s ≡ Ok y → ((b ≡ true) × (r ≡ Ok y)) ⊎ ((b ≡ false) × (s ≡ Ok y))
+choice_ok true r s y e = inl (refl, e)
+choice_ok false r s y e = inr (refl, e)
 
 pub not_false : (b : Bool) → not b ≡ false → b ≡ true
 not_false true e = refl
@@ -171,7 +176,7 @@ each_again {X = X} read spell Fits is n at (x ∷ xs) le fits = of_count n (λ m
 
 -- ---- the steps of a loop over records
 
-regroup : {X : Type 0} (front : List X) (x : X) (r : Result (List X) Misread) → with_front front (r >>= λ others. Ok (x ∷ others)) ≡ with_front (front ++ x ∷ []) r
+pub regroup : {X : Type 0} (front : List X) (x : X) (r : Result (List X) Misread) → with_front front (r >>= λ others. Ok (x ∷ others)) ≡ with_front (front ++ x ∷ []) r
 regroup {X = X} front x (Ok xs) = ap (λ (ys : List X). Ok ys) (sym (append_assoc front (x ∷ []) xs))
 regroup front x (Err d) = refl
 

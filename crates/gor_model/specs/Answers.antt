@@ -55,9 +55,17 @@ weight (change.Seal key w) = 13
 abbrev pub buffered_weight : History → ℕ
 buffered_weight H = sum_by weight (changes (since_take H))
 
+-- the weight of what waits at which a flush is due
+abbrev pub due_weight : ℕ
+due_weight = 65536
+
+-- a put brings this weight to the limit
+abbrev pub makes_due : ℕ → Bool
+makes_due w = nat_lt w due_weight && nat_le due_weight (w + 21)
+
 -- a put brings the weight of what waits to the limit
 abbrev pub is_due : History → Bool
-is_due H = nat_lt (buffered_weight H) 65536 && nat_le 65536 (buffered_weight H + 21)
+is_due H = makes_due (buffered_weight H)
 
 abbrev pub last_time : Row → Option ℕ
 last_time row = option_map (λ p. p.time) (last_of (kept row.floor row.points))

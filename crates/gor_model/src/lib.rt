@@ -13,6 +13,7 @@ pub mod number;
 pub mod point;
 pub mod start;
 pub mod unit;
+pub mod weight;
 pub mod windows;
 pub mod wrong;
 
@@ -22,5 +23,6 @@ pub use number::{is_number, is_window, u32_in, u64_in};
 pub use point::{Merged, Point, Points, between, kept_in_range};
 pub use start::{Move, Row, Start};
 pub use unit::Unit;
+pub use weight::{DUE_WEIGHT, is_due};
 pub use windows::{GREATEST_TIME, LAST_WINDOW};
 pub use wrong::{Misread, Wrong};

@@ -1,6 +1,8 @@
 -- Passes that lanes give back.
-use Rattle.std.specs.Prelude.{◌≡◌, ℕ, ◌<◌, ◌≤◌, List, [], slice_get, Some}
+use Rattle.std.specs.Prelude.{◌≡◌, ℕ, ◌+◌, ◌<◌, ◌≤◌, List, [], ◌∷◌, slice_get, Some}
 use Rattle.gor_model.specs.declared.start.Start.{Start}
+use Rattle.gor_model.specs.declared.start.Move.{Move}
+use Rattle.gor_model.specs.declared.start.Move.TheVariants.{Took, Gave}
 use Rattle.gor_model.specs.Changes.{History}
 use Rattle.gor_model.specs.Answers.{Legal}
 use Rattle.gor_rule.specs.Rule.{numbers}
@@ -36,3 +38,7 @@ Covers {X} f n xs = (l : ℕ) → l < n → (k : ℕ) × (x : X) × (slice_get x
 -- there is one legal history, in which lanes from this number on have no event, and each value stands for its share of it
 abbrev pub HasEndedWell : Start → ℕ → List Plain → Type 0
 HasEndedWell start lanes values = (h : History) × Legal start h × ((l : ℕ) → lanes ≤ l → numbers l h ≡ []) × AllStand plain_stands start values h
+
+-- the device, the directory, the first series and the journal of a shard with so many slots, taken in this order and then given back, the last move first
+abbrev pub taken_and_given : ℕ → List Move
+taken_and_given slots = Gave 0 ∷ Gave 1 ∷ Gave 2 ∷ Gave (slots + 2) ∷ Took (slots + 2) ∷ Took 2 ∷ Took 1 ∷ Took 0 ∷ []

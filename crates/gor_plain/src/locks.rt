@@ -1,9 +1,9 @@
 //! What a pass takes in rising order, and what it is refused.
-ghost use Rattle.std.specs.Prelude.{◌≡◌, ◌+◌, ◌<◌, [], ◌∷◌, true, false};
+ghost use Rattle.std.specs.Prelude.{◌≡◌, ◌+◌, ◌<◌, [], ◌∷◌, true, false, ◌++◌};
 ghost use Rattle.gor_model.specs.declared.start.Move.TheVariants.{Took, Gave};
 ghost use Rattle.gor_hall.specs.Halls.{start_of, objects_of};
 ghost use Rattle.gor_hall.specs.Passes.{moves, refused};
-ghost use Rattle.gor_plain.specs.Lanes.{IsIdle, IsBack};
+ghost use Rattle.gor_plain.specs.Lanes.{IsIdle, IsBack, taken_and_given};
 
 use crate::plain::Plain;
 use gor_hall::{Hall, Pass};
@@ -15,7 +15,7 @@ pub fn take_in_rising_order<R: Wait>(rt: &R, hall: &Hall<Plain>, pass: &mut Pass
     requires pass { IsIdle hall.now pass.old }
     requires slot { 0 < (start_of hall.now).slots }
     ensures pass { IsBack hall.now pass.old pass.new }
-    ensures moves { moves pass.new ≡ Gave 0 ∷ Gave 1 ∷ Gave 2 ∷ Gave ((start_of hall.now).slots + 2) ∷ Took ((start_of hall.now).slots + 2) ∷ Took 2 ∷ Took 1 ∷ Took 0 ∷ moves pass.old }
+    ensures moves { moves pass.new ≡ taken_and_given (start_of hall.now).slots ++ moves pass.old }
 {
     let last = hall.objects() - 1;
     let device = hall.take(rt, pass, 0);

@@ -1,5 +1,5 @@
 //! A put to a series that is there, under the locks of the series and of the journal.
-ghost use Rattle.std.specs.Prelude.{◌≡◌, ◌+◌, ◌<◌, ◌≤◌, ◌^◌, ◌&&◌, [], ◌∷◌, ℕ, IfOk, OnErr, IfSome, IfNone, Some, nat_lt, nat_le, MatchOption, ⊤};
+ghost use Rattle.std.specs.Prelude.{◌≡◌, ◌+◌, ◌<◌, ◌≤◌, ◌^◌, [], ◌∷◌, ℕ, IfOk, OnErr, IfSome, IfNone, Some, MatchOption, ⊤};
 ghost use Rattle.gor_model.specs.declared.event.Call.TheVariants as call;
 ghost use Rattle.gor_model.specs.declared.event.Reply.TheVariants as reply;
 ghost use Rattle.gor_model.specs.PlainMap.{last_of};
@@ -17,7 +17,7 @@ use crate::parts::{Aside, Cell, Journal, Waiting};
 use crate::plain::Plain;
 use crate::start::letter;
 use gor_hall::{Hall, Pass};
-use gor_model::{Bytes, Change, Point, Points};
+use gor_model::{Bytes, Change, Point, Points, is_due};
 use gor_rule::Says;
 use std::alloc::{AllocError, Global};
 use std::sync::Wait;
@@ -43,13 +43,6 @@ pub struct StoredPut {
 
 impl Says for StoredPut {
     ghost event = { λ p. record { lane = p.lane; slot = Some p.slot; call = call.Put p.name p.key p.time p.word; reply = reply.Stored p.due } };
-}
-
-fn is_due(weight: u64) -> bool
-    requires { weight < 2 ^ 63 }
-    ensures { result ≡ (nat_lt weight 65536 && nat_le 65536 (weight + 21)) }
-{
-    weight < 65536 && 65536 <= weight + 21
 }
 
 // A time above the last point's, if there is one.

@@ -24,15 +24,15 @@ use Rattle.gor_block.specs.Faults.{Finds}
 use Rattle.gor_block.specs.declared.fault.BlockFault.{BlockFault}
 use Rattle.gor_block.specs.declared.fault.BlockFault.TheVariants.{NoMemory}
 use Rattle.gor_block.proofs.BytesLaws.{block_one}
-use Rattle.gor_block.proofs.ChainLaws.{each_of}
 use Rattle.gor_image.specs.Blocks.{points_in}
 use Rattle.gor_recover.specs.RowReads.{points_of, wants_memory, is_milli, file_rows, IsRowOf, IsRow, AreRows}
 use Rattle.gor_recover.specs.FileFaults.{Gives}
 use Rattle.std.specs.Prelude.{drop}
 use Rattle.gor_model.proofs.FieldLaws.{IsBytes-take, IsBytes-drop}
+use Rattle.gor_model.proofs.Lists.{all_places}
+use Rattle.gor_image.proofs.ReadBack.{after_ok}
 use Rattle.gor_image.specs.Records.{BlockRow}
 use Rattle.gor_recover.specs.declared.file_fault.FileFault.{FileFault}
-use Rattle.gor_recover.proofs.KeysRise.{then_ok}
 use Rattle.gor_image.proofs.BlockFound.{block_found}
 use Rattle.gor_image.proofs.BlockExact.{block_exact}
 
@@ -74,7 +74,7 @@ pub points_rise : (w : ℕ) (bytes : List ℕ) (points : List Point) → IsBytes
 points_rise w bytes points fits limit is =
     let x = block_exact w bytes points fits limit is in
     let code = x.0.code x.1.some in
-    record { rise = code.rising; inside = each_of (λ (p : Point). window p.time ≡ w) points code.inside; words = each_of (λ (p : Point). p.word < 2 ^ 64) points x.0.words }
+    record { rise = code.rising; inside = all_places (λ (p : Point). window p.time ≡ w) points code.inside; words = all_places (λ (p : Point). p.word < 2 ^ 64) points x.0.words }
 
 pub found_is : {A F : Type 0} (r : Result A F) (x y : A) → IfOk r (λ found. found ≡ x) → y ≡ x → IfOk r (λ found. y ≡ found)
 found_is (Ok found) x y h e = e ∙ sym h
@@ -148,7 +148,7 @@ row_rises file at bytes row out fits limits is = by (points_in row.window (block
 pub rows_rise : (file at : ℕ) (bytes : List ℕ) (rows : List SlabRow) (out : List BlockRow) → IsBytes bytes → AllByRecursion (IsRowOf file) rows → rows_read file at bytes rows ≡ Ok out → AreRows out
 rows_rise file at bytes [] out fits limits is = let none : [] ≡ out = cc in subst AreRows none tt
 rows_rise file at bytes (row ∷ rows) out fits limits is =
-    let a = then_ok (row_read file at bytes row (points_in row.window (block_of bytes row))) _ out is in
-    let b = then_ok (rows_read file (at + 24) bytes rows) _ out a.2 in
+    let a = after_ok (row_read file at bytes row (points_in row.window (block_of bytes row))) _ out is in
+    let b = after_ok (rows_read file (at + 24) bytes rows) _ out a.2 in
     let both : a.0 ∷ b.0 ≡ out = (let e = b.2 in cc) in
     subst AreRows both (row_rises file at bytes row a.0 fits limits.0 a.1, rows_rise file (at + 24) bytes rows b.0 fits limits.1 b.1)

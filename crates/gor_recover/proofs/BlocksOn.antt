@@ -2,6 +2,7 @@
 use Rattle.std.proofs.Common.{◌≡◌, ℕ, List, [], ◌∷◌, ◌++◌, Bool, refl, sym, ap, ◌∙◌, subst}
 use Rattle.std.specs.Prelude.{Result, Ok, Err, IsTrue}
 use Rattle.std.proofs.lemmas.List.{append_assoc, append-nil}
+use Rattle.gor_model.proofs.Lists.{all_joined}
 use Rattle.gor_disk.specs.declared.disk.FileId.TheVariants.{Block}
 use Rattle.gor_disk.specs.Disk.{Contents}
 use Rattle.gor_image.specs.declared.fault.ImageFault.{ImageFault}
@@ -15,7 +16,6 @@ use Rattle.gor_recover.specs.Openings.{IsMet}
 use Rattle.gor_recover.specs.Gathering.{each_with_row, each_with_rows}
 use Rattle.gor_recover.specs.RowReads.{IsRow, AreRows}
 use Rattle.gor_recover.specs.StoreReads.{HasRows, HasBlocks}
-use Rattle.gor_image.proofs.Append.{all_both}
 
 abbrev pub with_before : List BlockRow → Result (List BlockRow) ImageFault → Result (List BlockRow) ImageFault
 with_before rows read = and_then read (λ more. Ok (rows ++ more))
@@ -41,7 +41,7 @@ pub one_more : (tells : Bool) (seen now : Contents) (whole rest : List ℕ) (w :
     → BlocksSoFar tells seen whole (w ∷ rest) old mid → HasRows tells now w mid new → BlocksSoFar tells seen whole rest old new
 one_more tells seen now whole rest w old mid new same so_far has = record {
   rows = so_far.rows ++ has.rows;
-  limits = all_both IsRow so_far.rows has.rows so_far.limits has.limits;
+  limits = all_joined IsRow so_far.rows has.rows so_far.limits has.limits;
   added = has.added ∙ (ap (λ s. each_with_rows s has.rows) so_far.added ∙ rows_both old so_far.rows has.rows);
   left = λ t. so_far.left t ∙ (ap (λ r. with_before so_far.rows (and_then r (λ rows. and_then (read_blocks seen rest) (λ more. Ok (rows ++ more))))) (ap (λ bytes. in_file (Block w) (rows_at w bytes)) (sym (same t)) ∙ has.read t) ∙ by (read_blocks seen rest));
 } where

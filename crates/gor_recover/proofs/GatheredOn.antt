@@ -4,6 +4,7 @@ use Rattle.std.specs.Prelude.{unwrap_or, nat_lt, Result, Ok, Err, IsTrue, IfSome
 use Rattle.std.specs.List.{AllByRecursion, range_with_len}
 use Rattle.gor_model.specs.Windows.{last_window}
 use Rattle.gor_model.specs.Starts.{IsFloor}
+use Rattle.gor_model.proofs.Lists.{all_weaker}
 use Rattle.gor_disk.specs.declared.disk.FileId.{FileId}
 use Rattle.gor_disk.specs.declared.disk.FileId.TheVariants.{Keys, Log, Block}
 use Rattle.gor_disk.specs.Disk.{Contents}
@@ -27,7 +28,6 @@ use Rattle.gor_recover.specs.LogReads.{HasLogs, LogsAre, logs_up, top_among}
 use Rattle.gor_recover.specs.StoreReads.{IsBasedOn, HasBlocks, live_from}
 use Rattle.gor_recover.specs.Gathers.{HasGathered}
 use Rattle.gor_recover.proofs.BlocksOn.{met_next}
-use Rattle.gor_image.proofs.Lists.{all_weaker}
 use Rattle.gor_recover.proofs.Tells.{all_gathered, still_there}
 
 -- ---- a disk that tells the same

@@ -5,13 +5,13 @@ use Rattle.std.specs.List.{cons_option}
 use Rattle.std.proofs.lemmas.List.{append_assoc, append-nil}
 use Rattle.std.proofs.lemmas.List.Elements.{filter_map-append}
 use Rattle.gor_model.specs.PlainMap.{greatest, last_of}
+use Rattle.gor_model.proofs.Lists.{get_last}
 use Rattle.gor_log.specs.declared.record.LogRecord.{LogRecord}
 use Rattle.gor_image.specs.Records.{Placed, Batch}
 use Rattle.gor_image.specs.Recovery.{log_records, floor_end}
 use Rattle.gor_image.specs.Images.{put_window, greatest_of}
 use Rattle.gor_recover.specs.LogsRead.{raised_top, top_by, top_with, floor_with, last_from}
 use Rattle.gor_image.proofs.Filled.{greatest_append}
-use Rattle.gor_recover.proofs.Ends.{get_last}
 
 pub drop_end : {A : Type 0} (xs : List A) (i : ℕ) → length xs ≤ i → drop i xs ≡ []
 drop_end [] zero le = refl

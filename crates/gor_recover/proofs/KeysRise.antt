@@ -1,21 +1,18 @@
 -- The numbers of the records of a key list rise.
-use Rattle.std.proofs.Common.{◌≡◌, ℕ, ◌+◌, ◌<◌, Bool, true, false, List, [], ◌∷◌, ◌++◌, Some, Result, Ok, Err, refl, sym, ap, ◌∙◌, subst, append_assoc}
+use Rattle.std.proofs.Common.{◌≡◌, ℕ, ◌+◌, ◌<◌, Bool, true, false, List, [], ◌∷◌, ◌++◌, Some, Ok, refl, sym, ap, ◌∙◌, subst, append_assoc}
 use Rattle.std.specs.Prelude.{filter_map, nat_lt, nat_eq, ◌&&◌}
 use Rattle.std.proofs.lemmas.Bool.{ltb-true}
 use Rattle.std.proofs.lemmas.List.{append-nil}
 use Rattle.std.proofs.lemmas.List.Elements.{filter_map-append}
+use Rattle.gor_image.proofs.ReadBack.{after_ok}
 use Rattle.gor_keys.specs.declared.record.KeyRecord.{KeyRecord}
 use Rattle.gor_keys.specs.declared.record.KeyRecord.TheVariants.{Create, Delete, Live}
 use Rattle.gor_image.specs.Records.{Placed}
 use Rattle.gor_image.specs.Recovery.{number_in, is_above}
-use Rattle.gor_image.specs.Grammars.{and_then, keys_at}
+use Rattle.gor_image.specs.Grammars.{keys_at}
 use Rattle.gor_image.specs.Holding.{RiseAbove}
 use Rattle.gor_image.specs.Images.{KeysRead, key_after, keys_after, read_keys, read_bodies}
 use Rattle.gor_recover.specs.KeyReads.{keys_from, AreListed, NumbersRise}
-
-pub then_ok : {A B F : Type 0} (r : Result A F) (next : A → Result B F) (y : B) → and_then r next ≡ Ok y → (x : A) × (r ≡ Ok x) × (next x ≡ Ok y)
-then_ok (Ok x) next y e = (x, refl, e)
-then_ok (Err d) next y e = absurd cc
 
 abbrev numbers : List (Placed KeyRecord) → List ℕ
 numbers entries = filter_map (λ r. number_in r.it) entries
@@ -42,7 +39,7 @@ one st t at (Live u s f name) is more rise = by (is_above st.slot s) refl is whe
 each : (st t : KeysRead) (rs : List (Placed KeyRecord)) → keys_after st rs ≡ Ok t → Carries st.number t.number (numbers rs)
 each st t [] is = let same : st ≡ t = cc in λ more rise. subst (λ (k : KeysRead). RiseAbove k.number more) (sym same) rise
 each st t (r ∷ rs) is =
-    let a = then_ok (key_after st r.at r.it) (λ u. keys_after u rs) t is in
+    let a = after_ok (key_after st r.at r.it) (λ u. keys_after u rs) t is in
     let b = each a.0 t rs a.2 in
     λ more rise. subst (RiseAbove st.number) (joined more) (one st a.0 r.at r.it a.1 (numbers rs ++ more) (b more rise))
   where
@@ -54,9 +51,9 @@ pub rise_on : (sealed : Bool) (st t : KeysRead) (bodies : List (ℕ × List ℕ)
     → (new : List (Placed KeyRecord)) × (t.records ≡ st.records ++ new) × Carries st.number t.number (numbers new)
 rise_on sealed st t [] is = let same : st ≡ t = cc in ([], sym (ap (λ (k : KeysRead). k.records) same) ∙ sym (append-nil st.records), λ more rise. subst (λ (k : KeysRead). RiseAbove k.number more) (sym same) rise)
 rise_on sealed st t (body ∷ bodies) is =
-    let a = then_ok (read_keys sealed st (body.0 + 9) body.1) (λ u. read_bodies (read_keys sealed) u bodies) t is in
-    let k = then_ok (keys_at (sealed && nat_eq st.bodies 0) (body.0 + 9) body.1) _ a.0 a.1 in
-    let o = then_ok (keys_after st k.0) _ a.0 k.2 in
+    let a = after_ok (read_keys sealed st (body.0 + 9) body.1) (λ u. read_bodies (read_keys sealed) u bodies) t is in
+    let k = after_ok (keys_at (sealed && nat_eq st.bodies 0) (body.0 + 9) body.1) _ a.0 a.1 in
+    let o = after_ok (keys_after st k.0) _ a.0 k.2 in
     let here = each st o.0 k.0 o.1 in
     let rest = rise_on sealed a.0 t bodies a.2 in
     let read : record o.0 { bodies = st.bodies + 1; records = st.records ++ k.0 } ≡ a.0 = (let e = o.2 in cc) in

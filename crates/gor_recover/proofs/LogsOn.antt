@@ -13,6 +13,7 @@ use Rattle.gor_disk.specs.Disk.{Contents}
 use Rattle.gor_gate.specs.Gates.{Walk, gates}
 use Rattle.gor_log.specs.Reading.{log_in}
 use Rattle.gor_model.specs.declared.wrong.Misread.{Misread}
+use Rattle.gor_model.proofs.Lists.{all_joined, all_weaker, last_joined}
 use Rattle.gor_log.specs.Spelling as log_spelling
 use Rattle.gor_image.specs.declared.fault.ImageFault.TheVariants.{Damage}
 use Rattle.gor_image.specs.declared.fault.DamageKind.TheVariants.{Order, Cut}
@@ -31,9 +32,6 @@ use Rattle.gor_recover.specs.Ranges.{range_of}
 use Rattle.gor_recover.specs.LogsRead.{last_from, top_row}
 use Rattle.gor_recover.specs.LogReads.{HasLog, LogsAre, AreNoLogs, top_among}
 use Rattle.gor_recover.specs.BatchReads.{IsPart, AreParts}
-use Rattle.gor_image.proofs.Append.{all_both}
-use Rattle.gor_image.proofs.Lists.{all_weaker}
-use Rattle.gor_recover.proofs.Ends.{last_behind}
 use Rattle.gor_recover.proofs.Heights.{greatest_onto}
 use Rattle.gor_recover.proofs.BlocksOn.{met_next}
 
@@ -72,7 +70,7 @@ bodies_on log (body ∷ bodies) before after is = by (read_batch log before (bod
       record {
         more = first.more ++ rest.more;
         is = rest.is ∙ (ap (λ l. l ++ rest.more) first.is ∙ append_assoc before first.more rest.more);
-        own = all_both (λ (b : Batch). b.log ≡ log) first.more rest.more first.own rest.own;
+        own = all_joined (λ (b : Batch). b.log ≡ log) first.more rest.more first.own rest.own;
       }
 
 walk_on : (log : ℕ) (walk : Walk) (before after : List Batch) → read_walk (read_batch log) before walk ≡ Ok after → ReadsOn log before after
@@ -151,7 +149,7 @@ zero_is xs = by (last_of xs) where
   by (Some x) = refl
 
 last_both : (xs ys : List Batch) → last_from (last_number xs) ys ≡ last_number (xs ++ ys)
-last_both xs ys = by (last_of ys) (last_of xs) ∙ ap (λ o. or_zero (option_map (λ (b : Batch). b.last) o)) (sym (last_behind xs ys)) where
+last_both xs ys = by (last_of ys) (last_of xs) ∙ ap (λ o. or_zero (option_map (λ (b : Batch). b.last) o)) (sym (last_joined xs ys)) where
   by : (o p : Option Batch) → unwrap_or (option_map (λ b. b.last) o) (or_zero (option_map (λ b. b.last) p)) ≡ or_zero (option_map (λ b. b.last) (option_or o p))
   by None None = refl
   by None (Some x) = refl
@@ -205,8 +203,8 @@ one_more_log tells seen now log whole rest base low series mid new logs logs' sa
   done = so_far.done ++ log ∷ [];
   batches = so_far.batches ++ has.batches;
   parts = so_far.parts ∙ sym (append_assoc so_far.done (log ∷ []) rest);
-  below = all_both (λ l. l < log + 1) so_far.done (log ∷ []) (all_weaker (λ l. l < log) (λ l. l < log + 1) so_far.done (λ l h. omega arith) so_far.below) (omega arith, tt);
-  limits = all_both IsPart so_far.batches has.batches so_far.limits has.limits;
+  below = all_joined (λ l. l < log + 1) so_far.done (log ∷ []) (all_weaker (λ l. l < log) (λ l. l < log + 1) so_far.done (λ l h. omega arith) so_far.below) (omega arith, tt);
+  limits = all_joined IsPart so_far.batches has.batches so_far.limits has.limits;
   rise = rise_both 0 so_far.batches has.batches so_far.rise (subst (λ n. BatchesRise n has.batches) (so_far.logs_are.last ∙ (sym (zero_is so_far.batches) ∙ sym (end_is 0 so_far.batches))) has.rise);
   added = has.added ∙ (ap (λ s. each_with_batches base s has.batches) so_far.added ∙ batches_both base series so_far.batches has.batches);
   logs_are = record {
@@ -217,7 +215,7 @@ one_more_log tells seen now log whole rest base low series mid new logs logs' sa
     last = has.adds.last ∙ (ap (λ n. last_from n has.batches) so_far.logs_are.last ∙ last_both so_far.batches has.batches);
   };
   numbers_are = ap (map (λ t. t.log)) has.adds.tops ∙ (map-append (λ (t : LogTop). t.log) logs.tops.items (top_row log has.batches ∷ []) ∙ ap (λ l. l ++ log ∷ []) so_far.numbers_are);
-  earlier = λ t. all_both (λ (b : Batch). b.log < log + 1) so_far.batches has.batches
+  earlier = λ t. all_joined (λ (b : Batch). b.log < log + 1) so_far.batches has.batches
       (all_weaker (λ (b : Batch). b.log < log) (λ (b : Batch). b.log < log + 1) so_far.batches (λ b h. omega arith) (so_far.earlier t))
       (all_weaker (λ (b : Batch). b.log ≡ log) (λ (b : Batch). b.log < log + 1) has.batches (λ b h. omega arith) (own t));
   tops = λ t. has.adds.tops ∙ (ap (λ l. l ++ top_row log has.batches ∷ []) (so_far.tops t ∙ sym (tops_kept log so_far.batches has.batches so_far.done so_far.below (own t)))

@@ -3,24 +3,19 @@ use Rattle.std.proofs.Common.{◌≡◌, ℕ, suc, ◌+◌, ◌<◌, List, [], �
 use Rattle.std.specs.Prelude.{fold}
 use Rattle.std.specs.List.{AllByRecursion}
 use Rattle.std.proofs.lemmas.List.{take_more}
+use Rattle.gor_model.proofs.Lists.{drop_item, all_push, all_weaker}
 use Rattle.gor_keys.specs.declared.record.KeyRecord.{KeyRecord}
 use Rattle.gor_keys.specs.declared.record.KeyRecord.TheVariants.{Create, Delete, Live}
 use Rattle.gor_recover.specs.declared.records.PlacedKey.{PlacedKey}
 use Rattle.gor_recover.specs.declared.gather.Gathered.{Gathered}
 use Rattle.gor_recover.specs.Gathering.{HasSeries}
 use Rattle.gor_recover.specs.Placing.{BeginsMore}
-use Rattle.gor_image.proofs.Lists.{all_append, all_weaker}
-
-pub drop_item : {A : Type 0} (xs : List A) (i : ℕ) (d : A) → i < length xs → d ≡ get_or xs i d → drop i xs ≡ d ∷ drop (i + 1) xs
-drop_item xs i d low is =
-    let e : i + 1 ≡ suc i = omega arith in
-    drop-cons xs i d low ∙ (ap (λ x. x ∷ drop (suc i) xs) (sym is) ∙ ap (λ n. d ∷ drop n xs) (sym e))
 
 pub fold_item : {A S B : Type 0} (f : S → B → S) (h : A → B) (s t : S) (xs : List A) (i : ℕ) (d : A) → i < length xs → d ≡ get_or xs i d → t ≡ f s (h d) → fold f t (map h (drop (i + 1) xs)) ≡ fold f s (map h (drop i xs))
 fold_item f h s t xs i d low is step = ap (λ u. fold f u (map h (drop (i + 1) xs))) step ∙ sym (ap (λ l. fold f s (map h l)) (drop_item xs i d low is))
 
 pub all_item : {A : Type 0} (P : A → Type 0) (xs : List A) (i : ℕ) (d : A) → i < length xs → d ≡ get_or xs i d → AllByRecursion P (take i xs) → P d → AllByRecursion P (take (i + 1) xs)
-all_item P xs i d low is all here = subst (AllByRecursion P) (sym (take_more xs i d low ∙ ap (λ x. take i xs ++ x ∷ []) (sym is))) (all_append P (take i xs) d all here)
+all_item P xs i d low is all here = subst (AllByRecursion P) (sym (take_more xs i d low ∙ ap (λ x. take i xs ++ x ∷ []) (sym is))) (all_push P (take i xs) d all here)
 
 pub still_has : (old new : List Gathered) (k : KeyRecord) → BeginsMore old new → HasSeries old k → HasSeries new k
 still_has old new (Create number slot floor name) more has = more.kept number has

@@ -5,6 +5,7 @@ use Rattle.std.specs.Prelude.{filter_map, nat_eq, nat_lt}
 use Rattle.std.proofs.lemmas.Bool.{eqb-true}
 use Rattle.std.proofs.lemmas.List.Elements.{filter_map-append}
 use Rattle.gor_model.specs.PlainMap.{last_of}
+use Rattle.gor_model.proofs.Lists.{last_push}
 use Rattle.gor_marks.specs.declared.mark.Mark.{Mark}
 use Rattle.gor_marks.specs.declared.mark.Mark.TheVariants.{Home, Sealed}
 use Rattle.gor_marks.specs.Spelling.{InLimits, is_home}
@@ -13,13 +14,9 @@ use Rattle.gor_image.specs.Images.{sealed_window, sealed_upto, sealed_first_log,
 use Rattle.gor_image.specs.MarkLists.{MayFollow, AllFollow}
 use Rattle.gor_recover.specs.MarkReads.{AreFromHome, Carried}
 
-pub last_more : {A : Type 0} (xs : List A) (y : A) → last_of (xs ++ y ∷ []) ≡ Some y
-last_more [] y = refl
-last_more (x ∷ xs) y = rw (last_more xs y) refl
-
 -- the last of what the marks give
 last_given : {A : Type 0} (give : Mark → Option A) (marks : List Mark) (m : Mark) (y : A) → give m ≡ Some y → last_of (filter_map give (marks ++ m ∷ [])) ≡ Some y
-last_given give marks m y e = ap last_of (filter_map-append give marks (m ∷ []) ∙ ap (λ l. filter_map give marks ++ l) (one e)) ∙ last_more (filter_map give marks) y where
+last_given give marks m y e = ap last_of (filter_map-append give marks (m ∷ []) ∙ ap (λ l. filter_map give marks ++ l) (one e)) ∙ last_push (filter_map give marks) y where
   one : give m ≡ Some y → filter_map give (m ∷ []) ≡ y ∷ []
   one e = rw e refl
 

@@ -3,6 +3,7 @@ use Rattle.std.proofs.Common.{◌≡◌, ℕ, suc, ◌+◌, ◌-◌, ◌<◌, Li
 use Rattle.std.specs.Prelude.{filter_map, Ok, not, nat_eq, nat_lt, if◌then◌else◌}
 use Rattle.std.proofs.lemmas.List.{length-append, append-nil, append_assoc}
 use Rattle.gor_model.specs.PlainMap.{last_of}
+use Rattle.gor_model.proofs.Lists.{last_push}
 use Rattle.gor_marks.specs.declared.mark.Mark.{Mark}
 use Rattle.gor_marks.specs.declared.mark.Mark.TheVariants.{Home, Sealed}
 use Rattle.gor_image.specs.declared.fault.DamageKind.TheVariants.{Order}
@@ -11,7 +12,6 @@ use Rattle.gor_image.specs.Recovery.{is_above}
 use Rattle.gor_image.specs.Images.{sealed_window, sealed_upto, sealed_first_log, or_zero, current, base_of, first_log_of, mark_after}
 use Rattle.gor_image.specs.MarkLists.{MayFollow, AllFollow, AreMarks, AreMarksOrNone}
 use Rattle.gor_recover.specs.StoreReads.{IsBasedOn, told_by}
-use Rattle.gor_recover.proofs.Ends.{last_snoc}
 use Rattle.gor_image.proofs.Filled.{some_more}
 
 last_at : (xs : List Mark) (m d : Mark) → last_of xs ≡ Some m → get_or xs (length xs - 1) d ≡ m
@@ -46,12 +46,12 @@ one_more marks (Sealed w k u f) follow =
     let firsts = some_more sealed_first_log marks (Sealed w k u f) f refl in
     record {
       last = Sealed w k u f;
-      is = last_snoc marks (Sealed w k u f);
+      is = last_push marks (Sealed w k u f);
       based = record {
-        window = sym (ap last_of windows ∙ last_snoc (filter_map sealed_window marks) w);
-        upto = sym (ap (λ l. or_zero (last_of l)) uptos ∙ ap or_zero (last_snoc (filter_map sealed_upto marks) u));
+        window = sym (ap last_of windows ∙ last_push (filter_map sealed_window marks) w);
+        upto = sym (ap (λ l. or_zero (last_of l)) uptos ∙ ap or_zero (last_push (filter_map sealed_upto marks) u));
         current = next_key marks w k u f follow.rises ∙ sym (ap length windows ∙ length-append (filter_map sealed_window marks) (w ∷ []));
-        first_log = sym (ap (λ l. or_zero (last_of l)) firsts ∙ ap or_zero (last_snoc (filter_map sealed_first_log marks) f));
+        first_log = sym (ap (λ l. or_zero (last_of l)) firsts ∙ ap or_zero (last_push (filter_map sealed_first_log marks) f));
         order = follow.limits.first_log;
         limit = follow.limits.window;
         below = follow.limits.upto.1;

@@ -3,6 +3,7 @@ use Rattle.std.proofs.Common.{◌≡◌, ℕ, ◌+◌, ◌<◌, List, [], ◌∷
 use Rattle.std.specs.Prelude.{option_map}
 use Rattle.std.specs.List.{AllByRecursion}
 use Rattle.std.proofs.lemmas.List.{map-append}
+use Rattle.gor_model.proofs.Lists.{last_push, all_push}
 use Rattle.gor_log.specs.declared.record.LogRecord.{LogRecord}
 use Rattle.gor_log.specs.Spelling.{record_spelling, IsRecord}
 use Rattle.gor_recover.specs.declared.records.PlacedLog.{PlacedLog}
@@ -13,8 +14,6 @@ use Rattle.gor_image.specs.Holding.{BatchesRise}
 use Rattle.gor_image.specs.Images.{last_number, or_zero}
 use Rattle.gor_recover.specs.Parts.{record_shown, batch_shown}
 use Rattle.gor_recover.specs.BatchReads.{IsPart, AreParts}
-use Rattle.gor_recover.proofs.MarkSteps.{last_more}
-use Rattle.gor_image.proofs.Lists.{all_append}
 
 pub placed_more : (at len : ℕ) (placed more : List PlacedLog) (x : LogRecord) (old rest : List LogRecord) (total : List (Placed LogRecord)) → old ≡ x ∷ rest → len ≡ length (record_spelling x)
     → more ≡ placed ++ record { at = at + 9; it = x } ∷ [] → map record_shown placed ++ records_placed at old ≡ total → map record_shown more ++ records_placed (at + len) rest ≡ total
@@ -46,7 +45,7 @@ more_of parts more part pushed = record { shown = ap (map batch_shown) pushed �
 
 module _ (parts more : List LogPart) (part : LogPart) (pushed : More parts more part) where
   pub limits_more : AreParts (map batch_shown parts) → IsPart (batch_shown part) → AreParts (map batch_shown more)
-  limits_more all is = subst AreParts (sym pushed.shown) (all_append IsPart (map batch_shown parts) (batch_shown part) all is)
+  limits_more all is = subst AreParts (sym pushed.shown) (all_push IsPart (map batch_shown parts) (batch_shown part) all is)
 
   pub rise_more : (before last : ℕ) → ((rest : List Batch) → BatchesRise last rest → BatchesRise before (map batch_shown parts ++ rest)) → last < part.first → IsPart (batch_shown part)
       → (rest : List Batch) → BatchesRise part.last rest → BatchesRise before (map batch_shown more ++ rest)
@@ -57,4 +56,4 @@ module _ (parts more : List LogPart) (part : LogPart) (pushed : More parts more 
   behind_more batches = ap (λ l. batches ++ l) pushed.shown ∙ sym (append_assoc batches (map batch_shown parts) (batch_shown part ∷ []))
 
   pub last_is : (batches : List Batch) → last_number (batches ++ map batch_shown more) ≡ part.last
-  last_is batches = ap last_number (behind_more batches) ∙ ap (λ o. or_zero (option_map (λ (b : Batch). b.last) o)) (last_more (batches ++ map batch_shown parts) (batch_shown part))
+  last_is batches = ap last_number (behind_more batches) ∙ ap (λ o. or_zero (option_map (λ (b : Batch). b.last) o)) (last_push (batches ++ map batch_shown parts) (batch_shown part))

@@ -9,6 +9,7 @@ use Rattle.gor_model.specs.declared.start.Row.{Row}
 use Rattle.gor_model.specs.PlainMap.{greatest, last_of}
 use Rattle.gor_model.specs.Windows.{window, last_window, greatest_time, slots_of_a_shard}
 use Rattle.gor_model.specs.Starts.{IsFloor, IsStart}
+use Rattle.gor_model.proofs.Lists.{all_mapped, all_unmapped, all_joined, all_weaker, all_filter, all_last}
 use Rattle.gor_keys.specs.Spelling as keys_spelling
 use Rattle.gor_log.specs.Spelling as log_spelling
 use Rattle.gor_keys.specs.declared.record.KeyRecord.{KeyRecord}
@@ -41,8 +42,6 @@ use Rattle.gor_recover.specs.NamesRead.{names_from, AreNamed, filled_row}
 use Rattle.gor_recover.specs.Filling.{AreFilled}
 use Rattle.gor_recover.specs.Recovered.{keyed_row, recovered_start}
 use Rattle.gor_recover.specs.Gathers.{AreGatheredOf, Restores}
-use Rattle.gor_image.proofs.Append.{all_both}
-use Rattle.gor_image.proofs.Lists.{all_weaker, all_filter, all_last}
 use Rattle.gor_recover.proofs.Covers.{any_range}
 use Rattle.gor_recover.proofs.BlocksOn.{met_next}
 use Rattle.gor_image.proofs.Reading.{AreRead, are_read}
@@ -52,21 +51,13 @@ use Rattle.gor_image.proofs.Starting.{IsRecordOf, IsNamed, IsLogInLimits, InLimi
 
 -- ---- limits
 
-all_map : {A B : Type 0} (P : B → Type 0) (f : A → B) (xs : List A) → AllByRecursion P (map f xs) → AllByRecursion (λ x. P (f x)) xs
-all_map P f [] all = tt
-all_map P f (x ∷ xs) all = (all.0, all_map P f xs all.1)
-
-map_all : {A B : Type 0} (P : B → Type 0) (f : A → B) (xs : List A) → AllByRecursion (λ x. P (f x)) xs → AllByRecursion P (map f xs)
-map_all P f [] all = tt
-map_all P f (x ∷ xs) all = (all.0, map_all P f xs all.1)
-
 low_slot : (it : KeyRecord) → IsKeyLimited it → HasSlot slots_of_a_shard it
 low_slot (Create number slot floor name) limits = let l = limits.slot in omega arith
 low_slot (Delete number slot) limits = let l = limits.slot in omega arith
 low_slot (Live uid slot floor name) limits = let l = limits.slot in omega arith
 
 pub keys_low : (keys : List PlacedKey) → AreKeysAt (map key_shown keys) → AllByRecursion (λ k. HasSlot slots_of_a_shard k.it) keys
-keys_low keys all = all_weaker (λ (k : PlacedKey). IsKeyAt (key_shown k)) (λ (k : PlacedKey). HasSlot slots_of_a_shard k.it) keys (λ k h. low_slot k.it h.limits) (all_map IsKeyAt key_shown keys all)
+keys_low keys all = all_weaker (λ (k : PlacedKey). IsKeyAt (key_shown k)) (λ (k : PlacedKey). HasSlot slots_of_a_shard k.it) keys (λ k h. low_slot k.it h.limits) (all_unmapped IsKeyAt key_shown keys all)
 
 pub number_low : (it : KeyRecord) → IsKeyLimited it → unwrap_or (number_in it) 0 < 2 ^ 63
 number_low (Create number slot floor name) limits = limits.number.1
@@ -100,11 +91,11 @@ log_low (Floor w) limits = limits
 log_low (Seal uid w) limits = limits.window
 
 all_it : (P : LogRecord → Type 0) (rs : List (Placed LogRecord)) → AllByRecursion (λ r. P r.it) rs → AllByRecursion P (map (λ r. r.it) rs)
-all_it P rs all = map_all P (λ (r : Placed LogRecord). r.it) rs all
+all_it P rs all = all_mapped P (λ (r : Placed LogRecord). r.it) rs all
 
 logs_low : (batches : List Batch) → AreParts batches → AllByRecursion IsLogInLimits (log_records batches)
 logs_low [] all = tt
-logs_low (b ∷ batches) all = all_both IsLogInLimits (map (λ r. r.it) b.records) (log_records batches)
+logs_low (b ∷ batches) all = all_joined IsLogInLimits (map (λ r. r.it) b.records) (log_records batches)
     (all_it IsLogInLimits b.records (all_weaker (λ (r : Placed LogRecord). log_spelling.IsRecord r.it) (λ (r : Placed LogRecord). IsLogInLimits r.it) b.records (λ r h. log_low r.it h) all.0.records)) (logs_low batches all.1)
 
 point_low : (w : ℕ) (p : Point) → w ≤ last_window → window p.time ≡ w → p.time ≤ greatest_time
@@ -128,7 +119,7 @@ last_low : (batches : List Batch) → AreParts batches → last_number batches <
 last_low batches all = by (last_of batches) refl where
   by : (o : Option Batch) → last_of batches ≡ o → or_zero (option_map (λ b. b.last) o) < 2 ^ 63
   by None e = omega arith
-  by (Some b) e = (all_last IsPart batches all b e).range.below
+  by (Some b) e = (all_last IsPart batches b all e).range.below
 
 pub from_low : (files : Files) (upto : ℕ) (store : GatheredFiles) → AreGatheredOf files upto store → max upto store.logs.last < 2 ^ 63
 from_low files upto store is = let a = is.below in let b = subst (λ n. n < 2 ^ 63) (sym is.logs_are.last) (last_low files.batches is.parts) in omega arith
@@ -202,14 +193,14 @@ has_row series (Delete number slot) has = tt
 
 all_rows : (P : Row → Type 0) (names : Names) (rows : List NamedRow) → ((k : List ℕ) (r : Row) → names.row k ≡ Some r → P r) → rows_by_slot names ≡ map named_row rows → AllByRecursion (λ r. P (named_row r)) rows
 unfolding rows_by_slot
-all_rows P names rows each are = all_map P named_row rows (subst (AllByRecursion P) are (held_all names P each (range_with_len 0 slots_of_a_shard)))
+all_rows P names rows each are = all_unmapped P named_row rows (subst (AllByRecursion P) are (held_all names P each (range_with_len 0 slots_of_a_shard)))
 
 pub rows_there : (files : Files) (upto : ℕ) (store : GatheredFiles) → AreGatheredOf files upto store → (rows : List NamedRow) → AreNamed (names_from upto store.logs.ranges.items no_names (map key_shown store.keys.items)) rows
     → AllByRecursion (λ named. IsTrue (list_any (has_uid named.uid) store.series)) rows
 rows_there files upto store is rows named = all_rows (λ r. IsTrue (list_any (has_uid r.uid) store.series)) named.names rows
     (read_have (λ k r. IsTrue (list_any (has_uid r.uid) store.series)) files named.names (names_same files upto store is ∙ named.is)
     (subst (AllByRecursion (λ (x : Placed KeyRecord). IsRecordOf (λ k r. IsTrue (list_any (has_uid r.uid) store.series)) x.it)) (sym is.keys_are)
-    (map_all (λ (x : Placed KeyRecord). IsRecordOf (λ k r. IsTrue (list_any (has_uid r.uid) store.series)) x.it) key_shown store.keys.items
+    (all_mapped (λ (x : Placed KeyRecord). IsRecordOf (λ k r. IsTrue (list_any (has_uid r.uid) store.series)) x.it) key_shown store.keys.items
     (all_weaker (λ (k : PlacedKey). HasSeries store.series k.it) (λ (k : PlacedKey). IsRecordOf (λ q r. IsTrue (list_any (has_uid r.uid) store.series)) k.it) store.keys.items (λ k h. has_row store.series k.it h) is.has))))
     named.rows_are
 
@@ -247,8 +238,8 @@ module _ (files : Files) (upto : ℕ) (store : GatheredFiles) (is : AreGatheredO
       needed_is n e = ap (λ l. greatest 0 (map (λ r. r.1.slot + 1) l)) rows_are ∙ (ap (greatest 0) (map_map found) ∙ sym e)
 
       pub found_low : AllByRecursion (λ r. r.slot < slots_of_a_shard) found
-      found_low = all_map (λ (r : List ℕ × Row). r.1.slot < slots_of_a_shard) keyed_row found
-          (subst (AllByRecursion (λ (r : List ℕ × Row). r.1.slot < slots_of_a_shard)) (sym filled_are.are) (map_all (λ (r : List ℕ × Row). r.1.slot < slots_of_a_shard) (filled_row files) rows named.low))
+      found_low = all_unmapped (λ (r : List ℕ × Row). r.1.slot < slots_of_a_shard) keyed_row found
+          (subst (AllByRecursion (λ (r : List ℕ × Row). r.1.slot < slots_of_a_shard)) (sym filled_are.are) (all_mapped (λ (r : List ℕ × Row). r.1.slot < slots_of_a_shard) (filled_row files) rows named.low))
 
       pub check_stop : (fault : OpenFault) → IsMet (with_limits slots (recovered files named.names)) fault → IsMet (and_then (map_of_files list files) (with_limits slots)) fault
       check_stop fault met = subst (λ r. IsMet (and_then r (with_limits slots)) fault) (sym map_is) met
@@ -297,7 +288,7 @@ module _ (files : Files) (upto : ℕ) (store : GatheredFiles) (is : AreGatheredO
       unfolding rows_by_slot
       enough le k r e = at (named.names.row k) refl e where
         all : AllByRecursion (λ (x : Row). x.slot < slots) (filter_map (row_held named.names) (range_with_len 0 slots_of_a_shard))
-        all = subst (AllByRecursion (λ (x : Row). x.slot < slots)) (sym named.rows_are) (map_all (λ (x : Row). x.slot < slots) named_row rows
+        all = subst (AllByRecursion (λ (x : Row). x.slot < slots)) (sym named.rows_are) (all_mapped (λ (x : Row). x.slot < slots) named_row rows
             (below_all rows (subst (λ n. n ≤ slots) (ap (λ l. greatest 0 (map (λ x. x.1.slot + 1) l)) (named.keyed files) ∙ ap (greatest 0) (slot_map rows)) le)))
 
         at : (o : Option Row) → named.names.row k ≡ o → option_map (filled files.base files.blocks (log_records files.batches)) o ≡ Some r → r.slot < slots

@@ -8,6 +8,7 @@ use Rattle.std.proofs.lemmas.List.Elements.{filter_map-append}
 use Rattle.gor_model.specs.declared.point.Point.{Point}
 use Rattle.gor_model.specs.Windows.{window, window_end}
 use Rattle.gor_model.specs.PlainMap.{greatest, last_of}
+use Rattle.gor_model.proofs.Lists.{all_weaker}
 use Rattle.gor_disk.specs.declared.disk.FileId.TheVariants.{Log, Block}
 use Rattle.gor_keys.specs.declared.record.KeyRecord.{KeyRecord}
 use Rattle.gor_keys.specs.declared.record.KeyRecord.TheVariants.{Create, Delete, Live}
@@ -23,7 +24,6 @@ use Rattle.gor_image.specs.Recovery.{is_above, seal_end, log_records}
 use Rattle.gor_image.specs.Grammars.{and_then}
 use Rattle.gor_image.specs.Images.{Found, found_rise, found_of, block_found, put_found}
 use Rattle.gor_recover.specs.Gathering.{IsBegun, has_uid, HasSeries, IsGathered, rise_of, first_spot, spot_at, with_point, with_points, with_row, row_spot, with_log, with_end, each_with_row, each_with_rows, each_with_record, each_with_batch, each_with_batches}
-use Rattle.gor_image.proofs.Lists.{all_weaker}
 use Rattle.gor_image.proofs.Filled.{greatest_append}
 use Rattle.gor_image.proofs.Rising.{found_points}
 

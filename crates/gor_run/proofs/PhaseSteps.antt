@@ -1,5 +1,5 @@
 -- The phases of a run: what the passes of a shard have served grows by each of them, and what the sink holds by its text.
-use Rattle.std.proofs.Common.{◌≡◌, ℕ, zero, suc, ◌+◌, ◌*◌, ◌^◌, ◌<◌, ◌≤◌, List, [], ◌∷◌, ◌++◌, length, drop, get_or, Option, Some, slice_get, refl, sym, ap, subst, ◌∙◌, drop-cons, arith}
+use Rattle.std.proofs.Common.{◌≡◌, ℕ, zero, suc, ◌+◌, ◌*◌, ◌^◌, ◌<◌, ◌≤◌, List, [], ◌∷◌, ◌++◌, length, drop, get_or, Option, Some, slice_get, refl, sym, ap, subst, ◌∙◌, arith}
 use Rattle.std.specs.Prelude.{map, flat_map, sum_by}
 use Rattle.std.specs.List.{AllByRecursion}
 use Rattle.std.specs.Io.KnownBytes.{Appends}
@@ -7,6 +7,7 @@ use Rattle.std.proofs.lemmas.List.{append_assoc, append-nil, drop_all, map-appen
 use Rattle.std.proofs.lemmas.List.Sums.{sum_by-cons}
 use Rattle.std.proofs.lemmas.List.Concat.{flat_map-cons}
 use Rattle.std.proofs.lemmas.Grind.{flat_map-append}
+use Rattle.gor_model.proofs.Lists.{drop_item, all_joined, all_mapped}
 use Rattle.gor_finish.specs.Made.{Numbered}
 use Rattle.gor_hall.specs.declared.pass.Pass.{Pass}
 use Rattle.gor_hall.specs.Passes.{made, lane_of}
@@ -16,7 +17,6 @@ use Rattle.gor_text.specs.Transcripts.{Served, phase_text_from, text_of}
 use Rattle.gor_text.proofs.ActAnswers.{phase_told}
 use Rattle.gor_text.specs.declared.answer.LaneAnswer.{LaneAnswer}
 use Rattle.gor_text.specs.declared.workload.Line.{Line}
-use Rattle.gor_text.proofs.Interleavings.{all-append}
 use Rattle.gor_outside.specs.Causes.{Rose}
 use Rattle.gor_store.specs.LineParts.{ArePart}
 use Rattle.gor_store.specs.Phases.{RanPhase, RanInPart, lines_at}
@@ -27,7 +27,6 @@ use Rattle.gor_store.specs.Works.{HaveAdded, nothing}
 use Rattle.gor_store.specs.declared.store.Store.{Store}
 use Rattle.gor_store.proofs.LineParts.{none_part, whole_part}
 use Rattle.gor_store.proofs.NinePasses.{left_for, closing_left}
-use Rattle.gor_store.proofs.StoryLists.{all_mapped}
 use Rattle.gor_store.proofs.Works.{work_starts, phase_is_done, last_is_done, work_is_counted}
 use Rattle.gor_run.specs.Outputs.{AppendsPart, AppendsUntil}
 use Rattle.gor_run.specs.Serving.{AnswersPhase, WroteAll, WroteInPart, WroteUntil}
@@ -36,18 +35,13 @@ use Rattle.gor_run.proofs.KnownParts.{grown_by_none, grown_twice}
 
 -- ---- one place of a list
 
-here : {A : Type 0} (xs : List A) (i : ℕ) (x : A) → i < length xs → x ≡ get_or xs i x → drop i xs ≡ x ∷ drop (i + 1) xs
-here xs i x below is =
-    let after : suc i ≡ i + 1 = omega arith in
-    drop-cons xs i x below ∙ (ap (λ y. y ∷ drop (suc i) xs) (sym is) ∙ ap (λ (n : ℕ). x ∷ drop n xs) after)
-
 mapped : {A B : Type 0} (f : A → B) (xs : List A) (i : ℕ) → drop i (map f xs) ≡ map f (drop i xs)
 mapped f xs zero = refl
 mapped f [] (suc i) = refl
 mapped f (x ∷ xs) (suc i) = mapped f xs i
 
 pub here_mapped : {A B : Type 0} (f : A → B) (xs : List A) (i : ℕ) (x : A) → i < length xs → x ≡ get_or xs i x → drop i (map f xs) ≡ f x ∷ drop (i + 1) (map f xs)
-here_mapped f xs i x below is = mapped f xs i ∙ (ap (map f) (here xs i x below is) ∙ ap (λ ys. f x ∷ ys) (sym (mapped f xs (i + 1))))
+here_mapped f xs i x below is = mapped f xs i ∙ (ap (map f) (drop_item xs i x below is) ∙ ap (λ ys. f x ∷ ys) (sym (mapped f xs (i + 1))))
 
 pub all_gone : {A B : Type 0} (f : A → B) (xs : List A) (i : ℕ) → length xs ≤ i → drop i (map f xs) ≡ []
 all_gone f xs i all = mapped f xs i ∙ ap (map f) (drop_all i xs all)
@@ -85,7 +79,7 @@ served_more olds news phases lanes text more h a =
           ∙ (ap (λ (front : List (List (List Line))). front ++ map (map (λ (s : Served). s.line)) last ∷ []) h.lines
           ∙ ap (λ (l : List (List Line)). phases ++ l ∷ []) (lines_of_runs r.runs ∙ r.served)));
       answered = subst (AllByRecursion (AllByRecursion (AllByRecursion (λ (s : Served). LineAnswers 1 s.line s.acts)))) (sym grows)
-          (all-append (AllByRecursion (AllByRecursion (λ (s : Served). LineAnswers 1 s.line s.acts))) (served_in h.runs) (last ∷ []) h.answered
+          (all_joined (AllByRecursion (AllByRecursion (λ (s : Served). LineAnswers 1 s.line s.acts))) (served_in h.runs) (last ∷ []) h.answered
           (all_mapped (AllByRecursion (λ (s : Served). LineAnswers 1 s.line s.acts)) (λ (run : LaneRun). run.served) r.runs r.answered, tt));
       tells = ap (λ (t : List ℕ). t ++ more) h.tells
           ∙ (ap (λ (t : List ℕ). text_of (served_in h.runs) ++ t) (a.is ∙ (ap (flat_map answer_line) r.tells ∙ (phase_told 0 last ∙ (sym (append-nil (phase_text_from 0 last)) ∙ sym (flat_map-cons (phase_text_from 0) last [])))))

@@ -14,9 +14,9 @@ use Rattle.gor_hall.specs.Halls.{start_of}
 use Rattle.gor_hall.specs.Passes.{made}
 use Rattle.gor_model.specs.declared.event.Event.{Event}
 use Rattle.gor_model.specs.declared.start.Start.{Start}
+use Rattle.gor_model.proofs.Lists.{all_weaker, all_front}
 use Rattle.gor_text.specs.Transcripts.{Served}
 use Rattle.gor_text.specs.declared.workload.Line.{Line}
-use Rattle.gor_text.proofs.Interleavings.{all-map}
 use Rattle.gor_finish.specs.Flushes.{take_made, take_refused, stop_made}
 use Rattle.gor_store.specs.Closings.{ClosesBy, only_last}
 use Rattle.gor_store.specs.Lanes.{AreTaken}
@@ -27,7 +27,6 @@ use Rattle.gor_store.specs.Stories.{AllFrom, count_all, served_in}
 use Rattle.gor_store.specs.Works.{HaveAdded, IsAmong, AreOfLane, nothing}
 use Rattle.gor_store.specs.declared.store.Store.{Store}
 use Rattle.gor_store.proofs.Sessions.{says_when, others_none}
-use Rattle.gor_store.proofs.StoryLists.{all_front}
 use Rattle.gor_store.proofs.Works.{last_is_done, work_is_counted}
 use Rattle.gor_run.specs.Dumps.{CallsFirst}
 use Rattle.gor_run.specs.Outputs.{AppendsUntil}
@@ -43,7 +42,7 @@ use Rattle.gor_run.specs.declared.serving.PhaseFault.TheVariants as fault
 only_from : (least most : ℕ) (events : List Numbered) (k : ℕ) → least ≤ most → AllFrom most events → AllFrom least (only_last events k)
 only_from least most events k low all = at (nat_eq k 8) where
   at : (b : Bool) → AllFrom least (cond b events [])
-  at true = all-map (λ (e : Numbered). most ≤ e.0) (λ (e : Numbered). least ≤ e.0) (λ e up. omega (arith, up, low)) events all
+  at true = all_weaker (λ (e : Numbered). most ≤ e.0) (λ (e : Numbered). least ≤ e.0) events (λ e up. omega (arith, up, low)) all
   at false = tt
 
 only_none : (events : List Numbered) (k : ℕ) → 8 < k → only_last events k ≡ []
@@ -133,7 +132,7 @@ has_ended tells view faults old new stopped disks same flushed back = record {
 }
 
 taken_lines : (phases : List (List (List Line))) → AreTakenPhases phases → AllByRecursion (AllByRecursion AreTaken) phases
-taken_lines phases taken = all-map IsTakenPhase (AllByRecursion AreTaken) (λ lanes t. t.taken) phases taken
+taken_lines phases taken = all_weaker IsTakenPhase (AllByRecursion AreTaken) phases (λ lanes t. t.taken) taken
 
 front_taken : (run rest phases : List (List (List Line))) → phases ≡ run ++ rest → AreTakenPhases phases → AllByRecursion (AllByRecursion AreTaken) run
 front_taken run rest phases parts taken = taken_lines run (all_front IsTakenPhase run rest (subst AreTakenPhases parts taken))
@@ -176,8 +175,8 @@ module _ {D : Type 0} (tells : Bool) (view : D → DiskView) (faults : D → ℕ
       record {
         held = record { start = start; history = e.closed.history; session = session.0; told = session.1 };
         in_order = λ k low. subst (AreOfLane k (session.1.transcript.histories 0) session.1.later) (alone more e.events k low) (session.4 k);
-        of = all-map (λ (x : Event). IsAmong (more x.lane ++ only_last e.events x.lane) x) (λ (x : Event). (x.lane < 8) ⊎ IsOfLastFlush x)
-            (λ x among. besides more e.events (flushes_by stopped e.events e.closes) eight x among) session.1.later session.3;
+        of = all_weaker (λ (x : Event). IsAmong (more x.lane ++ only_last e.events x.lane) x) (λ (x : Event). (x.lane < 8) ⊎ IsOfLastFlush x)
+            session.1.later (λ x among. besides more e.events (flushes_by stopped e.events e.closes) eight x among) session.3;
       }
 
   rose_so : (phases : List (List (List Line))) (text : List ℕ) (now : D) → HeldWhole tells view faults slots first now phases text (Some 0) → disk.Rose (faults first) (faults now)

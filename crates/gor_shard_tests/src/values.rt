@@ -1,10 +1,9 @@
 //! The values of a shard are those of the rows that were recovered.
-ghost use Rattle.std.specs.Prelude.{◌≡◌, [], false, IfOk};
-ghost use Rattle.gor_model.specs.Shares.{device_share};
+ghost use Rattle.std.specs.Prelude.{◌≡◌, false, IfOk};
 ghost use Rattle.gor_model.specs.Starts.{IsStart};
 ghost use Rattle.gor_recover.specs.Recovered.{recovered_start};
-ghost use Rattle.gor_flush.specs.Devices.{StandsFor, shown};
-ghost use Rattle.gor_flush.specs.Starts.{start_with};
+ghost use Rattle.gor_flush.specs.Devices.{shown};
+ghost use Rattle.gor_flush.specs.Starts.{StandsAtStart};
 ghost use Rattle.gor_shard_tests.specs.Devices.{IsOfAnyRows};
 
 use crate::rows::{no_rows, two_rows};
@@ -23,7 +22,7 @@ use std::test::Fail;
 fn any_device<D: Disk>(device: Device<D>, recovered: &Recovered) -> Device<D>
     requires silent { D.tells ≡ false }
     requires empty { (recovered.now.floor ≡ 0) × (recovered.now.next ≡ 1) }
-    requires stands { StandsFor (shown D.tells D.view D.faults device) (start_with 2 recovered.now (shown D.tells D.view D.faults device)) (device_share (start_with 2 recovered.now (shown D.tells D.view D.faults device)) []) }
+    requires stands { StandsAtStart 2 recovered.now (shown D.tells D.view D.faults device) }
     ensures { IsOfAnyRows (shown D.tells D.view D.faults result) }
 {
     let _ = recovered;

@@ -15,7 +15,7 @@ use Rattle.gor_model.specs.declared.wrong.Wrong.{Wrong}
 use Rattle.gor_model.specs.declared.wrong.Wrong.TheVariants.{Value, Row}
 use Rattle.gor_model.specs.declared.wrong.Misread.{Misread}
 use Rattle.gor_model.specs.Fields.{IsBytes, IsNumber, number_in, is_number, ◌>>=◌, with_front}
-use Rattle.gor_model.proofs.FieldLaws.{IsBytes-drop, bind_ok, guard_held, and_true, ok_is, number_held, number_tested, number_parts, number_below, wide32, wide64}
+use Rattle.gor_model.proofs.FieldLaws.{IsBytes-drop, bind_ok, guard_held, and_true, ok_is, number_held, number_tested, number_parts, number_below, wide32, wide64, regroup}
 use Rattle.gor_slab.specs.declared.row.SlabRow.{SlabRow}
 use Rattle.gor_fields.specs.declared.field_fault.FieldFault.{FieldFault}
 use Rattle.gor_fields.specs.declared.field_fault.FieldFault.TheVariants as fault
@@ -27,10 +27,6 @@ abbrev at_fault : ℕ → Wrong → Misread
 at_fault at kind = record { at = at; kind = kind }
 
 -- ---- the loop
-
-regroup : {X : Type 0} (front : List X) (x : X) (r : Result (List X) Misread) → with_front front (r >>= λ others. Ok (x ∷ others)) ≡ with_front (front ++ x ∷ []) r
-regroup {X = X} front x (Ok xs) = ap (λ (ys : List X). Ok ys) (sym (append_assoc front (x ∷ []) xs))
-regroup front x (Err d) = refl
 
 step : (last room at place n : ℕ) (bytes : List ℕ) (r : SlabRow) → row_in last room at place bytes ≡ Ok r
     → rows_in last room at place (suc n) bytes ≡ (rows_in last room (at + 24) (place + r.length) n (drop 24 bytes) >>= λ others. Ok (r ∷ others))

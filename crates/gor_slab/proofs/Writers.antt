@@ -10,10 +10,6 @@ use Rattle.gor_slab.specs.Spelling.{Entry, IsEntry, IsWithin, IsEntryOf, blocks,
 use Rattle.gor_slab.specs.Reading.{ReadsAs}
 use Rattle.gor_slab.proofs.Files.{same_file, file_again}
 
-pub all_push : {X : Type 0} (P : X → Type 0) (xs : List X) (x : X) → AllByRecursion P xs → P x → AllByRecursion P (xs ++ x ∷ [])
-all_push P [] x all is = (is, tt)
-all_push P (y ∷ ys) x all is = (all.0, all_push P ys x all.1 is)
-
 pub rows_push : (place : ℕ) (es : List Entry) (e : Entry) → rows_of place (es ++ e ∷ []) ≡ rows_of place es ++ row e.uid e.window (place + length (blocks es)) (length e.block) ∷ []
 rows_push place [] e = ap (λ (p : ℕ). row e.uid e.window p (length e.block) ∷ []) (omega arith)
 rows_push place (x ∷ es) e =

@@ -7,6 +7,8 @@ use Rattle.gor_model.specs.declared.unit.Unit.TheVariants.{Second, Milli}
 use Rattle.gor_model.specs.declared.wrong.Wrong.TheVariants.{Version, Short, Extra, Value, Row, Padding}
 use Rattle.gor_model.specs.declared.wrong.Misread.{Misread}
 use Rattle.gor_model.specs.Fields.{number_in, is_number, is_window, wrong, ◌>>=◌}
+use Rattle.gor_fields.specs.declared.field_fault.FieldFault.{FieldFault}
+use Rattle.gor_fields.specs.Readings.{Gives}
 use Rattle.gor_slab.specs.declared.row.SlabRow.{SlabRow}
 use Rattle.gor_slab.specs.declared.row.Sizes.{Sizes}
 use Rattle.gor_slab.specs.declared.row.SlabIndex.{SlabIndex}
@@ -124,3 +126,12 @@ pub record Spells (last : ℕ) (i : Index) (file : List ℕ) : Type 0 where
 pub record ReadsAs (last : ℕ) (unit : TimeUnit) (es : List Entry) (file : List ℕ) : Type 0 where
   pub read : index_in last file ≡ Ok (index unit (rows_of 0 es))
   pub entries : entries_of file (rows_of 0 es) ≡ es
+
+-- whatever blocks these bytes spell, in the file of this window, are read of them, unless memory is wanting
+abbrev pub ReadsBlocks : ℕ → List ℕ → Result SlabIndex FieldFault → Type 0
+ReadsBlocks window bytes result = (unit : TimeUnit) (entries : List Entry) → IsFile window entries → bytes ≡ spelling unit entries → Gives shown result (Ok (index unit (rows_of 0 entries)))
+
+-- these bytes spell one list of blocks in one unit at most, in the file of this window
+abbrev pub HasOneValue : ℕ → List ℕ → Type 0
+HasOneValue window bytes = (unit second : TimeUnit) (entries others : List Entry) → IsFile window entries → IsFile window others
+    → bytes ≡ spelling unit entries → bytes ≡ spelling second others → (unit ≡ second) × (entries ≡ others)

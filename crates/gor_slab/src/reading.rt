@@ -4,7 +4,7 @@ ghost use Rattle.gor_model.specs.declared.unit.Unit.{Unit as TimeUnit};
 ghost use Rattle.gor_fields.specs.declared.field_fault.FieldFault.TheVariants as faults;
 ghost use Rattle.gor_fields.specs.Readings.{Gives};
 ghost use Rattle.gor_slab.specs.Spelling.{Entry, IsFile, greatest_part, rows_of, spelling};
-ghost use Rattle.gor_slab.specs.Reading.{index, unit_in, sizes_in, is_window_of, row_in, rows_in, used, zeros_in, padding_in, index_in, shown, block_of, IsInside, Spells};
+ghost use Rattle.gor_slab.specs.Reading.{index, unit_in, sizes_in, is_window_of, row_in, rows_in, used, zeros_in, padding_in, index_in, shown, block_of, IsInside, Spells, ReadsBlocks, HasOneValue};
 
 use crate::SlabFault;
 use crate::row::{
@@ -174,9 +174,9 @@ pub fn read_index(alloc: Global, bytes: &[u8], window: u32) -> Result<SlabIndex,
     // What is read is spelled so.
     ensures found { IfOk result (λ file. Spells window (shown file) bytes.now) }
     // What is spelled so is read, unless memory is wanting.
-    ensures only { (unit : TimeUnit) (entries : List Entry) → IsFile window entries → bytes.now ≡ spelling unit entries → Gives shown result (Ok (index unit (rows_of 0 entries))) }
+    ensures only { ReadsBlocks window bytes.now result }
     // No file has two values.
-    ensures one { (unit second : TimeUnit) (entries others : List Entry) → IsFile window entries → IsFile window others → bytes.now ≡ spelling unit entries → bytes.now ≡ spelling second others → (unit ≡ second) × (entries ≡ others) }
+    ensures one { HasOneValue window bytes.now }
     // The bytes of each row stand in the file.
     ensures inside { IfOk result (λ file. All (IsInside bytes.now) file.rows.items) }
     // Which fault it is.

@@ -1,13 +1,12 @@
 //! A block file is written, series after series.
 ghost use Rattle.std.specs.Prelude.{◌≡◌, ℕ, ◌+◌, ◌*◌, ◌^◌, ◌<◌, ◌≤◌, [], ◌∷◌, ◌++◌, List, length, drop, replicate, vec_len, vec_capacity, OnOk, OnErr, IfOk};
 ghost use Rattle.std.specs.Int.{w32, w64, to_be_bytes};
-ghost use Rattle.std.specs.List.{flat_map, AllByRecursion};
+ghost use Rattle.std.specs.List.{flat_map};
 ghost use Rattle.gor_model.specs.Fields.{IsNumber};
 ghost use Rattle.gor_model.specs.Windows.{last_window};
 ghost use Rattle.gor_model.specs.declared.unit.Unit.{Unit as TimeUnit};
-ghost use Rattle.gor_slab.specs.Spelling.{Entry, entry, IsWithin, magic, version, header, row_bytes, spelling};
-ghost use Rattle.gor_slab.specs.Reading.{ReadsAs};
-ghost use Rattle.gor_slab.specs.Writing.{Wrote};
+ghost use Rattle.gor_slab.specs.Spelling.{Entry, entry, magic, version, header, row_bytes, spelling};
+ghost use Rattle.gor_slab.specs.Writing.{Wrote, AddsEntry, ReadsAdded};
 
 use crate::row::{GREATEST_PART, GREATEST_ROWS, HEADER_LEN, ROW_LEN, SLAB_LEN, SlabRow};
 use byteorder::{BigEndian, ByteOrder};
@@ -46,7 +45,7 @@ impl SlabWriter {
         requires uid { IsNumber uid }
         requires window { window ≤ last_window }
         requires block { length block.now < 2 ^ 32 }
-        ensures added { (unit : TimeUnit) (entries : List Entry) → Wrote self.old unit entries → OnOk result (Wrote self.new unit (entries ++ entry uid window block.now ∷ [])) }
+        ensures added { AddsEntry (entry uid window block.now) result self.old self.new }
         ensures kept { (unit : TimeUnit) (entries : List Entry) → Wrote self.old unit entries → OnErr result (Wrote self.new unit entries) }
     {
         make_room(&mut self.bytes)?;
@@ -68,7 +67,7 @@ impl SlabWriter {
         // The file is the one spelling of what was added.
         ensures file { (unit : TimeUnit) (entries : List Entry) → Wrote self.old unit entries → IfOk result (λ file. file.items ≡ spelling unit entries) }
         // It reads as what was added, in the file of any window that is not below those of the blocks.
-        ensures read { (unit : TimeUnit) (entries : List Entry) → Wrote self.old unit entries → (last : ℕ) → AllByRecursion (IsWithin last) entries → IfOk result (λ file. ReadsAs last unit entries file.items) }
+        ensures read { ReadsAdded self.old result }
         ensures emptied { (unit : TimeUnit) (entries : List Entry) → Wrote self.old unit entries → OnOk result (Wrote self.new unit []) }
         ensures kept { (unit : TimeUnit) (entries : List Entry) → Wrote self.old unit entries → OnErr result (Wrote self.new unit entries) }
     {

@@ -8,13 +8,14 @@ use Rattle.gor_model.specs.declared.event.Reply.{Reply}
 use Rattle.gor_model.specs.declared.event.Reply.TheVariants as reply
 use Rattle.gor_hall.specs.declared.pass.Pass.{Pass}
 use Rattle.gor_hall.specs.declared.hall.Hall.{Hall}
-use Rattle.gor_hall.specs.Halls.{IsPassOf}
+use Rattle.gor_hall.specs.Halls.{IsPassOf, start_of}
 use Rattle.gor_hall.specs.Passes.{view, held, lane_of, left_of_pass}
 use Rattle.gor_steps.specs.Views.{HasNone, HasEvent}
 use Rattle.gor_steps.specs.declared.gets.GetAnswer.{GetAnswer}
 use Rattle.gor_steps.specs.declared.gets.GetAnswer.TheVariants as read
 use Rattle.gor_steps.specs.declared.gets.GetFault.{GetFault}
 use Rattle.gor_steps.specs.declared.gets.GetFault.TheVariants as get
+use Rattle.gor_rule.specs.Plays.{without}
 
 module _ {V : Type 0} where
   -- the pass is of this shard, holds nothing, and has events left for whatever a call makes
@@ -24,6 +25,10 @@ module _ {V : Type 0} where
   -- it is of this shard and of the same lane, and holds nothing again
   abbrev pub IsBack : Hall V → Pass → Pass → Type 0
   IsBack shard old new = IsPassOf shard new × (held new ≡ []) × (lane_of new ≡ lane_of old)
+
+  -- it is of this shard and of the same lane, and gave back the series in this slot and the journal
+  abbrev pub GivesBoth : ℕ → Hall V → Pass → Pass → Type 0
+  GivesBoth slot shard old new = IsPassOf shard new × (lane_of new ≡ lane_of old) × (held new ≡ without (slot + 2) (without ((start_of shard).slots + 2) (held old)))
 
 -- an event of a lane
 abbrev pub said : ℕ → Option ℕ → Call → Reply → Event

@@ -152,3 +152,7 @@ PutsAgain slots old new =
 abbrev pub PutRefused : Pass → ℕ → Pass → PutFault → Type 0
 PutRefused old time new (fault.Time t) = (t ≡ time) × (greatest_time < time) × (new ≡ old)
 PutRefused old time new fault.NoMemory = (time ≤ greatest_time) × MakesNone old new
+
+-- the series that a put begins with its point
+abbrev pub series_begun : List ℕ → ℕ → ℕ → ℕ → NewPoint → SeriesShare
+series_begun name slot uid floor point = record { key = key_of name; row = begun name slot uid floor (record { time = point.time; word = point.word }) }

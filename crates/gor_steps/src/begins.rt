@@ -5,7 +5,6 @@ ghost use Rattle.gor_model.specs.Answers.{MayPut};
 ghost use Rattle.gor_model.specs.AnswersByShares.{put_absent_by, due_by};
 ghost use Rattle.gor_model.specs.Names.{key_of};
 ghost use Rattle.gor_model.specs.Shares.{JournalShare};
-ghost use Rattle.gor_model.specs.SharesAfter.{begun};
 ghost use Rattle.gor_model.specs.Windows.{greatest_time, slots_of_a_shard};
 ghost use Rattle.gor_model.specs.declared.unit.Unit.TheVariants.{Second};
 ghost use Rattle.gor_keys.specs.Spelling.{IsFloor};
@@ -16,17 +15,18 @@ ghost use Rattle.gor_hall.specs.Passes.{view, held, lane_of, left_of_pass, moves
 ghost use Rattle.gor_steps.specs.Gets.{slot_of};
 ghost use Rattle.gor_steps.specs.Held.{HasAll};
 ghost use Rattle.gor_steps.specs.Points.{IsBack, MakesNone};
-ghost use Rattle.gor_steps.specs.Puts.{BeginsIn, IsRefused, IsSameHeld, IsQuiet, BeginsOrStops, PutMakes, PutsAbsent, KeepsAll, put_reply};
+ghost use Rattle.gor_steps.specs.Puts.{BeginsIn, IsRefused, IsSameHeld, IsQuiet, BeginsOrStops, PutMakes, PutsAbsent, KeepsAll, put_reply, series_begun};
 ghost use Rattle.gor_steps.specs.Views.{HasDirectory, HasJournal, IsSound};
 
 use crate::held::{Held, give_all, take_more};
 use crate::kinds::Parts;
 use crate::parts::{give_directory, give_journal, take_journal};
-use crate::puts::{NewPoint, Put, PutAnswer, PutFault, PutReply, is_due};
+use crate::puts::{NewPoint, Put, PutAnswer, PutFault, PutReply};
 use gor_cell::Cell;
 use gor_dir::Directory;
 use gor_hall::{Hall, Pass};
 use gor_journal::{Entry, Journal};
+use gor_model::is_due;
 use gor_name::Name;
 use std::alloc::AllocError;
 use std::sync::Wait;
@@ -126,7 +126,7 @@ fn begin_cell(cell: Cell, name: Name, uid: u64, floor: u64, point: &NewPoint) ->
     requires vacant { cell.live ≡ None }
     requires open { floor ≤ point.now.time }
     requires timely { point.now.time ≤ greatest_time }
-    ensures ok { IfOk result (λ c. (slot : ℕ) → Stands c.live (Some (record { key = key_of name; row = begun name slot uid floor (record { time = point.now.time; word = point.now.word }) }))) }
+    ensures ok { IfOk result (λ c. (slot : ℕ) → Stands c.live (Some (series_begun name slot uid floor point.now))) }
     ensures err { IfErr result (λ c. c.live ≡ None) }
 {
     let mut cell = cell;

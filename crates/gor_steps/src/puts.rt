@@ -1,17 +1,16 @@
 //! Puts to a series that is there.
-ghost use Rattle.std.specs.Prelude.{◌≡◌, ◌+◌, ◌^◌, ◌<◌, ◌≤◌, ◌&&◌, [], ◌∷◌, Some, true, false, nat_lt, nat_le, IfOk, IfSome, IfNone, OnOk, OnErr, IsSome};
+ghost use Rattle.std.specs.Prelude.{◌≡◌, ◌+◌, ◌^◌, ◌<◌, ◌≤◌, [], ◌∷◌, Some, true, false, IfOk, IfSome, IfNone, OnOk, OnErr, IsSome};
 ghost use Rattle.gor_model.specs.declared.start.Move.TheVariants.{Took, Gave};
 ghost use Rattle.gor_model.specs.Answers.{MayPut};
 ghost use Rattle.gor_model.specs.Names.{key_of};
 ghost use Rattle.gor_model.specs.Objects.{Has, share_of};
-ghost use Rattle.gor_rule.specs.Plays.{without};
 ghost use Rattle.gor_hall.specs.Halls.{IsPassOf, start_of};
 ghost use Rattle.gor_hall.specs.Passes.{view, held, at, lane_of, left_of_pass, moves};
 ghost use Rattle.gor_model.specs.Windows.{greatest_time};
 ghost use Rattle.gor_model.specs.Fields.{IsNumber};
 ghost use Rattle.gor_cell.specs.Stands.{KeepsShare};
 ghost use Rattle.gor_cell.specs.Steps.{HasRoom, holds_key};
-ghost use Rattle.gor_steps.specs.Points.{IsBack, MakesNone};
+ghost use Rattle.gor_steps.specs.Points.{IsBack, MakesNone, GivesBoth};
 ghost use Rattle.gor_steps.specs.Puts.{HasBoth, PutsIn, PutMakes, PutsIfThere, PutsAt};
 ghost use Rattle.gor_steps.specs.Views.{IsSound};
 
@@ -21,6 +20,7 @@ use crate::parts::{give_series, take_journal, take_series};
 use gor_cell::CellPut;
 use gor_hall::{Hall, Pass};
 use gor_journal::Entry;
+use gor_model::is_due;
 use gor_name::Name;
 use gor_rule::Says;
 use std::alloc::AllocError;
@@ -88,14 +88,6 @@ impl Says for Put<'_> {
     ghost event = { λ p. put_event p.lane p.slot p.point.now p.answer };
 }
 
-/// Whether a put brings the weight of what waits to the limit.
-pub(crate) fn is_due(weight: u64) -> bool
-    requires { weight < 2 ^ 63 }
-    ensures { result ≡ (nat_lt weight 65536 && nat_le 65536 (weight + 21)) }
-{
-    weight < 65536 && 65536 <= weight + 21
-}
-
 // Makes the room for a put in both.
 fn reserve_in(both: &mut Both, point: &NewPoint) -> Result<(), AllocError>
     requires live { IsSome both.old.cell.live }
@@ -155,7 +147,7 @@ pub(crate) fn put_there<V: Parts<K>, K>(
     requires stands { HasBoth (view pass.old) slot both }
     requires holds { holds_key (key_of point.now.name.now) both.cell.live ≡ true }
     requires point { MayPut point.now.name.now (key_of point.now.name.now) point.now.time }
-    ensures pass { IsPassOf shard.now pass.new × (lane_of pass.new ≡ lane_of pass.old) × (held pass.new ≡ without (slot + 2) (without ((start_of shard.now).slots + 2) (held pass.old))) }
+    ensures pass { GivesBoth slot shard.now pass.old pass.new }
     ensures event { IfOk result (λ r. PutMakes pass.old point.now pass.new r.number r.answer) }
     ensures none { OnErr result (MakesNone pass.old pass.new) }
     ensures index { Has (held pass.old) 1 → share_of (view pass.new).start 1 (at pass.new) ≡ share_of (view pass.old).start 1 (at pass.old) }

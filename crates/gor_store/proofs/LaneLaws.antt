@@ -4,6 +4,7 @@ use Rattle.std.specs.List.{AllByRecursion}
 use Rattle.std.proofs.lemmas.List.{append-nil, map-append, reverse-append, reverse-reverse, take_more, take-append-drop}
 use Rattle.std.proofs.lemmas.Grind.{flat_map-append}
 use Rattle.gor_model.specs.Objects.{IsBeginning}
+use Rattle.gor_model.proofs.Lists.{all_joined, all_reverse}
 use Rattle.gor_rule.specs.Rule.{numbers}
 use Rattle.gor_rule.specs.declared.view.View.{View}
 use Rattle.gor_hall.specs.declared.hall.Hall.{Hall}
@@ -23,8 +24,7 @@ use Rattle.gor_store.specs.Lines.{IsResting, RestsAgain, HasRun, HasTold, Serves
 use Rattle.gor_store.specs.LineParts.{ArePart, HasBegun, RanUntil}
 use Rattle.gor_store.specs.Lanes.{AreTaken, needs, ServesAll, RunsLane, MadeFrom}
 use Rattle.gor_store.proofs.LineParts.{ran_until}
-use Rattle.gor_store.proofs.RunLaws.{runs_on, all_joined}
-use Rattle.gor_store.proofs.StoryLists.{all_reverse}
+use Rattle.gor_store.proofs.RunLaws.{runs_on}
 use Rattle.gor_store.proofs.Works.{added_newest_first, added_is_later}
 
 -- ---- a look

@@ -1,6 +1,7 @@
 -- What was made of some lines is what lines that were answered print, and a first part of one more.
 use Rattle.std.proofs.Common.{◌≡◌, inl, ℕ, List, [], ◌∷◌, ◌++◌, map, flat_map, reverse, refl, sym, ap, ◌∙◌, subst}
 use Rattle.std.proofs.lemmas.List.{append-nil, map-append, reverse-append}
+use Rattle.gor_model.proofs.Lists.{all_joined, all_reverse}
 use Rattle.gor_hall.specs.declared.pass.Pass.{Pass}
 use Rattle.gor_hall.specs.Passes.{lane_of}
 use Rattle.gor_finish.specs.Made.{Numbered}
@@ -12,8 +13,7 @@ use Rattle.gor_store.specs.Stories.{LaneRun, IsRun, printed_of}
 use Rattle.gor_store.specs.Lines.{HasRun, Prints}
 use Rattle.gor_store.specs.Lanes.{AreServed, ServesAll}
 use Rattle.gor_store.specs.LineParts.{AreBegun, ArePart, HasActed, HasBegun, RanUntil}
-use Rattle.gor_store.proofs.RunLaws.{runs_on, all_joined}
-use Rattle.gor_store.proofs.StoryLists.{all_reverse}
+use Rattle.gor_store.proofs.RunLaws.{runs_on}
 
 -- ---- a line
 

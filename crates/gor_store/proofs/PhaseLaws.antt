@@ -5,6 +5,7 @@ use Rattle.std.specs.List.{AllByRecursion}
 use mathlib.Core.Bool.{true≢false}
 use Rattle.std.proofs.lemmas.List.{reverse-reverse, length-map, get_or_past}
 use Rattle.std.proofs.lemmas.List.Concat.{flat_map-cons}
+use Rattle.gor_model.proofs.Lists.{all_reverse}
 use Rattle.gor_hall.specs.declared.hall.Hall.{Hall}
 use Rattle.gor_hall.specs.declared.pass.Pass.{Pass}
 use Rattle.gor_hall.specs.Passes.{lane_of}
@@ -24,7 +25,6 @@ use Rattle.gor_store.specs.LineParts.{ArePart}
 use Rattle.gor_store.specs.Lanes.{RunsLane, MadeFrom}
 use Rattle.gor_store.specs.Phases.{lines_at, passes_of, answers_of, IsReady, AreReady, HasWorked, HaveTold, HaveRested, RanPhase, RanInPart}
 use Rattle.gor_store.proofs.LineParts.{none_part, whole_part}
-use Rattle.gor_store.proofs.StoryLists.{all_reverse}
 use Rattle.gor_store.proofs.Works.{added_newest_first}
 
 -- ---- one lane

@@ -5,6 +5,7 @@ use Rattle.std.specs.List.{AllByRecursion}
 use Rattle.std.proofs.Math.Seq.{take-suc}
 use Rattle.gor_model.specs.declared.start.Row.{Row}
 use Rattle.gor_model.specs.Starts.{AreApart}
+use Rattle.gor_model.proofs.Lists.{all_front}
 use Rattle.std.proofs.lemmas.List.{map-append, take-append-drop}
 
 pub parted : {X : Type 0} (xs : List X) (i : ℕ) (x : X) → i < length xs → x ≡ get_or xs i x → take i xs ++ x ∷ drop (suc i) xs ≡ xs
@@ -40,13 +41,9 @@ pub apart_before : (rows : Rows) (r : List ℕ × Row) (rest : Rows) → AreApar
 apart_before [] r rest apart = tt
 apart_before (q ∷ rows) r rest apart = (behind (λ p. (p.0 ≢ q.0) × (p.1.slot ≢ q.1.slot)) rows r rest apart.0, apart_before rows r rest apart.1)
 
-front : {Y : Type 0} (P : Y → Type 0) (xs ys : List Y) → AllByRecursion P (xs ++ ys) → AllByRecursion P xs
-front P [] ys all = tt
-front P (x ∷ xs) ys all = (all.0, front P xs ys all.1)
-
 apart_front : (rows more : Rows) → AreApart (rows ++ more) → AreApart rows
 apart_front [] more apart = tt
-apart_front (q ∷ rows) more apart = (front (λ p. (p.0 ≢ q.0) × (p.1.slot ≢ q.1.slot)) rows more apart.0, apart_front rows more apart.1)
+apart_front (q ∷ rows) more apart = (all_front (λ p. (p.0 ≢ q.0) × (p.1.slot ≢ q.1.slot)) rows more apart.0, apart_front rows more apart.1)
 
 -- the first rows of some that are apart are so too
 pub first_apart : {X : Type 0} (f : X → List ℕ × Row) (xs : List X) (i : ℕ) → AreApart (map f xs) → AreApart (map f (take i xs))

@@ -2,7 +2,6 @@
 use Rattle.std.proofs.Common.{◌≡◌, ℕ, ◌+◌, ◌≤◌, List, [], ◌∷◌, ◌++◌, map, flat_map, reverse, refl, sym, ap, ◌∙◌, subst, append_assoc}
 use Rattle.std.proofs.lemmas.List.{append-nil, map-append, reverse-append}
 use Rattle.std.proofs.lemmas.Grind.{flat_map-append}
-use Rattle.std.specs.List.{AllByRecursion}
 use Rattle.std.specs.Prelude.{Result, Ok, Err, OnErr}
 use Rattle.gor_model.specs.Answers.{Legal}
 use Rattle.gor_model.specs.Changes.{History}
@@ -10,6 +9,8 @@ use Rattle.gor_model.specs.Objects.{IsBeginning}
 use Rattle.gor_model.specs.declared.event.Call.{Call}
 use Rattle.gor_model.specs.declared.event.Reply.{Reply}
 use Rattle.gor_model.specs.declared.start.Start.{Start}
+use Rattle.gor_model.proofs.Lists.{all_joined}
+use Rattle.gor_finish.proofs.MadeLaws.{all_on}
 use Rattle.gor_rule.specs.Rule.{numbers}
 use Rattle.gor_rule.proofs.Numbers.{beginning_self, beginning_trans}
 use Rattle.gor_hall.specs.declared.hall.Hall.{Hall}
@@ -59,14 +60,6 @@ module _ {V : Type 0} where
 
 stands_on : (H K : History) (e : Numbered) → IsBeginning H K → StandsIn H e → StandsIn K e
 stands_on H K e begins s = (s.0, beginning_trans (e.1 ∷ s.0) H K s.1 begins, s.2)
-
-all_on : (H K : History) (events : List Numbered) → IsBeginning H K → AllByRecursion (StandsIn H) events → AllByRecursion (StandsIn K) events
-all_on H K [] begins all = tt
-all_on H K (e ∷ events) begins all = (stands_on H K e begins all.0, all_on H K events begins all.1)
-
-pub all_joined : {X : Type 0} (P : X → Type 0) (xs ys : List X) → AllByRecursion P xs → AllByRecursion P ys → AllByRecursion P (xs ++ ys)
-all_joined P [] ys a b = b
-all_joined P (x ∷ xs) ys a b = (a.0, all_joined P xs ys a.1 b)
 
 pub runs_on : (old mid new : Pass) (first later : List Numbered) → lane_of mid ≡ lane_of old → HasRun old mid first → HasRun mid new later → HasRun old new (later ++ first)
 runs_on old mid new first later lane a b = record {

@@ -33,10 +33,6 @@ set_get (z ∷ xs) (suc i) (suc j) x y is = later (set_get xs i j x y is) where
 
 -- ---- cells without a series
 
-all-append : {X : Type 0} (P : X → Type 0) (xs ys : List X) → AllByRecursion P xs → AllByRecursion P ys → AllByRecursion P (xs ++ ys)
-all-append P [] ys all more = more
-all-append P (x ∷ xs) ys all more = (all.0, all-append P xs ys all.1 more)
-
 -- ---- one row more
 
 series_here : (rows : Rows) (r : List ℕ × Row) → AllByRecursion (IsOther r) rows → series_in (rows ++ r ∷ []) r.1.slot ≡ Some (record { key = r.0; row = r.1 })

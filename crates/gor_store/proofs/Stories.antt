@@ -12,12 +12,13 @@ use Rattle.gor_model.specs.declared.start.Start.{Start}
 use Rattle.gor_model.specs.Changes.{History}
 use Rattle.gor_model.specs.Answers.{Legal}
 use Rattle.gor_model.specs.Objects.{IsBeginning}
+use Rattle.gor_model.proofs.Lists.{all_joined, all_weaker, all_reverse, all_mapped}
 use Rattle.gor_rule.specs.Rule.{numbers}
 use Rattle.gor_text.specs.Interleaved.{PhaseMade, PhasesMade}
-use Rattle.gor_text.proofs.Interleavings.{all-append, all-map, is_printed}
+use Rattle.gor_text.proofs.Interleavings.{is_printed}
 use Rattle.gor_finish.specs.Made.{Numbered, StandsIn}
 use Rattle.gor_store.specs.Stories.{LaneRun, AreRuns, events_at, events_of_lane, numbers_of, count_of, count_all, AllFrom, PhasesAfter, StoryBegins, served_in, HistoryBegins, OneHistoryBegins, IsStory, IsOneHistory, OneHistory}
-use Rattle.gor_store.proofs.StoryLists.{map_reverse, all_reverse, all_mapped}
+use Rattle.gor_store.proofs.StoryLists.{map_reverse}
 use Rattle.gor_store.proofs.StoryNumbers.{below, below_same, below_zero, below_first, only_in, IsCut, cut_at}
 use Rattle.gor_store.proofs.StoryLanes.{lanes_print, named_alone}
 
@@ -59,8 +60,8 @@ lane_from : (least before lane : ℕ) (phases : List (List LaneRun)) → least �
 lane_from least before lane [] less in_order = tt
 lane_from least before lane (runs ∷ phases) less in_order =
     rw (flat_map-cons (events_at lane) runs phases)
-    (all-append (λ (e : Numbered). least ≤ e.0) (events_at lane runs) (events_of_lane lane phases)
-    (all-map (λ (e : Numbered). before ≤ e.0) (λ (e : Numbered). least ≤ e.0) (λ e up. omega (arith, up, less)) (events_at lane runs) (at_from before lane runs in_order.0))
+    (all_joined (λ (e : Numbered). least ≤ e.0) (events_at lane runs) (events_of_lane lane phases)
+    (all_weaker (λ (e : Numbered). before ≤ e.0) (λ (e : Numbered). least ≤ e.0) (events_at lane runs) (λ e up. omega (arith, up, less)) (at_from before lane runs in_order.0))
     (lane_from least (before + count_of runs) lane phases (omega (arith, less)) in_order.1))
 
 -- the numbers of a lane that are left: those of the phases, and the last ones
@@ -76,8 +77,8 @@ rest_more last runs phases lane =
 rest_from : (c lane : ℕ) (last : ℕ → List ℕ) (phases : List (List LaneRun)) → AllByRecursion (λ n. c + count_all phases ≤ n) (last lane) → PhasesAfter c phases
     → AllByRecursion (λ n. c ≤ n) (rest last phases lane)
 rest_from c lane last phases high in_order =
-    all-append (λ n. c ≤ n) (last lane) (numbers_of (events_of_lane lane phases))
-    (all-map (λ n. c + count_all phases ≤ n) (λ n. c ≤ n) (λ n up. omega (arith, up)) (last lane) high)
+    all_joined (λ n. c ≤ n) (last lane) (numbers_of (events_of_lane lane phases))
+    (all_weaker (λ n. c + count_all phases ≤ n) (λ n. c ≤ n) (last lane) (λ n up. omega (arith, up)) high)
     (all_reverse (λ n. c ≤ n) (map (λ (e : Numbered). e.0) (events_of_lane lane phases))
     (all_mapped (λ n. c ≤ n) (λ (e : Numbered). e.0) (events_of_lane lane phases) (lane_from c c lane phases (omega arith) in_order)))
 
@@ -197,7 +198,7 @@ module _ (shard : ℕ) (start : Start) (h : History) (phases : List (List LaneRu
     stands = story.stands;
     begins = (h, append-nil h);
     parts = λ lane. story.lanes lane ∙ (numbers_of_more (events_of_lane lane phases) (last lane) ∙ sym (append-nil (numbers_of (last lane) ++ numbers_of (events_of_lane lane phases))));
-    high = λ lane. high_numbers (0 + count_all phases) (last lane) (all-map (λ (e : Numbered). count_all phases ≤ e.0) (λ (e : Numbered). 0 + count_all phases ≤ e.0) (λ e above. omega (arith, above)) (last lane) (story.order.last_in_order lane));
+    high = λ lane. high_numbers (0 + count_all phases) (last lane) (all_weaker (λ (e : Numbered). count_all phases ≤ e.0) (λ (e : Numbered). 0 + count_all phases ≤ e.0) (last lane) (λ e above. omega (arith, above)) (story.order.last_in_order lane));
     few = beyond;
   }
 

@@ -11,6 +11,7 @@ use Rattle.std.proofs.lemmas.List.Elements.{filter-append}
 use Rattle.gor_model.specs.declared.event.Event.{Event}
 use Rattle.gor_model.specs.Changes.{History}
 use Rattle.gor_model.specs.Objects.{IsBeginning}
+use Rattle.gor_model.proofs.Lists.{all_reverse}
 use Rattle.gor_rule.specs.Rule.{numbers}
 use Rattle.gor_rule.proofs.Numbers.{numbers_own, numbers_else}
 use Rattle.gor_text.specs.Transcripts.{Printed, printed_line}
@@ -18,7 +19,7 @@ use Rattle.gor_text.specs.Interleaved.{printed_events, of_lane, LanesPrint}
 use Rattle.gor_finish.specs.Made.{Numbered, StandsIn}
 use Rattle.gor_store.specs.Stories.{LaneRun, IsRun, AreRuns, printed_of, events_at, numbers_of}
 use Rattle.gor_store.proofs.StoryNumbers.{stays_as_long}
-use Rattle.gor_store.proofs.StoryLists.{map_reverse, all_reverse, tails, heads, same_tails, kept_one, dropped_one}
+use Rattle.gor_store.proofs.StoryLists.{map_reverse, tails, heads, same_tails, kept_one, dropped_one}
 
 abbrev entry : ℕ → ℕ → Event → Printed
 entry phase number e = record { phase = phase; lane = e.lane; number = number; call = e.call; reply = e.reply }

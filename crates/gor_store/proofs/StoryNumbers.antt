@@ -8,10 +8,10 @@ use Rattle.std.proofs.lemmas.List.{append_assoc, length-append}
 use Rattle.std.proofs.lemmas.List.Sums.{sum_by-cons}
 use Rattle.gor_model.specs.Changes.{History}
 use Rattle.gor_model.specs.Objects.{IsBeginning}
+use Rattle.gor_model.proofs.Lists.{all_weaker}
 use Rattle.gor_rule.specs.Rule.{numbers}
 use Rattle.gor_rule.proofs.Numbers.{numbers_own, numbers_else}
 use Rattle.gor_rule.proofs.Numbers as rule
-use Rattle.gor_text.proofs.Interleavings.{all-map}
 use Rattle.gor_store.proofs.StoryLists.{cut, both_none, longer_tail}
 
 -- each number of a lane is below the length
@@ -19,7 +19,7 @@ pub all_under : (lane : ℕ) (h : History) → AllByRecursion (λ n. n < length 
 all_under lane [] = tt
 all_under lane (e ∷ h) = at (e.lane == lane) (all_map_up (all_under lane h)) where
   all_map_up : AllByRecursion (λ n. n < length h) (numbers lane h) → AllByRecursion (λ n. n < suc (length h)) (numbers lane h)
-  all_map_up = all-map (λ n. n < length h) (λ n. n < suc (length h)) (λ n less. omega (arith, less)) (numbers lane h)
+  all_map_up = all_weaker (λ n. n < length h) (λ n. n < suc (length h)) (numbers lane h) (λ n less. omega (arith, less))
 
   at : (b : Bool) → AllByRecursion (λ n. n < suc (length h)) (numbers lane h) → AllByRecursion (λ n. n < suc (length h)) (cond b (length h ∷ numbers lane h) (numbers lane h))
   at true under = (omega arith, under)

@@ -12,28 +12,25 @@ use Rattle.std.proofs.lemmas.Option.{slice_get-get_or, slice_get_within, slice_g
 use Rattle.gor_model.specs.declared.start.Start.{Start}
 use Rattle.gor_model.specs.Changes.{History}
 use Rattle.gor_model.specs.Objects.{IsBeginning}
+use Rattle.gor_model.proofs.Lists.{all_joined, all_weaker, all_reverse, all_unmapped, all_front, all_behind}
+use Rattle.gor_finish.proofs.MadeLaws.{all_on}
 use Rattle.gor_rule.specs.Rule.{numbers}
-use Rattle.gor_rule.proofs.Numbers.{beginning_trans}
 use Rattle.gor_hall.specs.declared.pass.Pass.{Pass}
 use Rattle.gor_hall.specs.Passes.{seen, made, lane_of}
 use Rattle.gor_hall.specs.Closings.{IsWholeHistory}
-use Rattle.gor_text.proofs.Interleavings.{all-append, all-map}
 use Rattle.gor_finish.specs.Made.{Numbered, StandsIn}
 use Rattle.gor_store.specs.Stories.{LaneRun, AreRuns, AllFrom, PhasesAfter, events_at, events_of_lane, numbers_of, count_of, count_all, HistoryBegins, IsOneHistory}
 use Rattle.gor_store.specs.Works.{HasDone, HasAdded, IsWork, WorkStarts, PhaseIsDone, LastIsDone, WorkIsCounted, AddedIsLater, WorkIsTold, WorkIsClosed}
-use Rattle.gor_store.proofs.StoryLists.{map_reverse, all_reverse, all_unmapped, all_front, all_back, same_fronts}
+use Rattle.gor_store.proofs.StoryLists.{map_reverse, same_fronts}
 use Rattle.gor_store.proofs.StoryNumbers.{later_numbers, below, below_same, below_plus, below_zero, sum_by_place}
 use Rattle.gor_store.proofs.Stories.{numbers_of_more, none_of_lane, long_numbers, count_lanes, one_history_begins, closed_of}
 
 -- ---- what one pass has done
 
-stand_on : (H K : History) (events : List Numbered) → IsBeginning H K → AllByRecursion (StandsIn H) events → AllByRecursion (StandsIn K) events
-stand_on H K events begins all = all-map (StandsIn H) (StandsIn K) (λ e s. (s.0, beginning_trans (e.1 ∷ s.0) H K s.1 begins, s.2)) events all
-
 done_more : (old new : Pass) (before events : List Numbered) → HasDone old before → HasAdded old new events → HasDone new (before ++ events)
 done_more old new before events d a = record {
   made_is = a.made_is ∙ (ap (λ (ns : List ℕ). numbers_of events ++ ns) d.made_is ∙ sym (numbers_of_more before events));
-  each = all-append (StandsIn (seen new)) before events (stand_on (seen old) (seen new) before a.begins d.each) a.each;
+  each = all_joined (StandsIn (seen new)) before events (all_on (seen old) (seen new) before a.begins d.each) a.each;
 }
 
 -- events that were told the newest first
@@ -84,8 +81,8 @@ after_more before (first ∷ phases) runs after all =
 pub phase_is_done : PhaseIsDone
 phase_is_done shard olds news phases runs w eight are after added = record {
   order = record {
-    eight = all-append (λ rs. length rs ≡ 8) phases (runs ∷ []) w.order.eight (eight, tt);
-    runs = all-append (AreRuns shard 0) phases (runs ∷ []) w.order.runs (are, tt);
+    eight = all_joined (λ rs. length rs ≡ 8) phases (runs ∷ []) w.order.eight (eight, tt);
+    runs = all_joined (AreRuns shard 0) phases (runs ∷ []) w.order.runs (are, tt);
     in_order = after_more 0 phases runs w.order.in_order (subst (λ (n : ℕ). AllByRecursion (λ r. AllFrom n r.events) runs) (omega arith) after);
     last_in_order = λ lane. tt;
     nine = λ lane above. refl;
@@ -109,7 +106,7 @@ last_is_done shard olds news phases last more w after few added = record {
     eight = w.order.eight;
     runs = w.order.runs;
     in_order = w.order.in_order;
-    last_in_order = λ lane. all-append (λ (e : Numbered). count_all phases ≤ e.0) (last lane) (more lane) (w.order.last_in_order lane) (after lane);
+    last_in_order = λ lane. all_joined (λ (e : Numbered). count_all phases ≤ e.0) (last lane) (more lane) (w.order.last_in_order lane) (after lane);
     nine = λ lane above. ap (λ (es : List Numbered). es ++ more lane) (w.order.nine lane above) ∙ few lane above;
   };
   nine = added.as_many ∙ w.nine;
@@ -137,7 +134,7 @@ work_is_counted shard passes phases w =
     sum_by_place (λ (p : Pass). length (made p)) (λ k. length (events_of_lane k phases)) passes
     (λ k p at. ap length (w.each k p at).1.made_is ∙ (long_numbers (events_of_lane k phases ++ []) ∙ ap length (append-nil (events_of_lane k phases))))
     ∙ (ap (λ (n : ℕ). below n (λ k. length (events_of_lane k phases))) w.nine
-    ∙ sum_of_lanes 9 phases (all-map (λ rs. length rs ≡ 8) (λ rs. length rs ≤ 9) (λ rs is. omega (arith, is)) phases w.order.eight))
+    ∙ sum_of_lanes 9 phases (all_weaker (λ rs. length rs ≡ 8) (λ rs. length rs ≤ 9) phases (λ rs is. omega (arith, is)) w.order.eight))
 
 -- ---- when the hall closes
 
@@ -150,7 +147,7 @@ stand_by_lane : (P : Numbered → Type 0) (phases : List (List LaneRun)) → ((l
 stand_by_lane P [] all = tt
 stand_by_lane P (runs ∷ phases) all = (
   stand_by_place P runs (λ lane. all_front P (events_at lane runs) (events_of_lane lane phases) (both lane)),
-  stand_by_lane P phases (λ lane. all_back P (events_at lane runs) (events_of_lane lane phases) (both lane)),
+  stand_by_lane P phases (λ lane. all_behind P (events_at lane runs) (events_of_lane lane phases) (both lane)),
 ) where
   both : (lane : ℕ) → AllByRecursion P (events_at lane runs ++ events_of_lane lane phases)
   both lane = subst (AllByRecursion P) (flat_map-cons (events_at lane) runs phases) (all lane)
@@ -167,7 +164,7 @@ module _ (shard : ℕ) (start : Start) (passes : List Pass) (h : History) (phase
     of_pass p at =
         let done = w.each lane p at in
         let seen_is = whole.3 lane p at in
-        (subst (λ (l : ℕ). numbers l h ≡ made p) done.0 seen_is.1 ∙ done.1.made_is, stand_on (seen p) h (events_of_lane lane phases ++ last lane) seen_is.0 done.1.each)
+        (subst (λ (l : ℕ). numbers l h ≡ made p) done.0 seen_is.1 ∙ done.1.made_is, all_on (seen p) h (events_of_lane lane phases ++ last lane) seen_is.0 done.1.each)
 
     none : 9 ≤ lane → events_of_lane lane phases ++ last lane ≡ []
     none above = ap (λ (es : List Numbered). es ++ last lane) (none_of_lane lane phases (omega (arith, above)) w.order.eight) ∙ w.order.nine lane (omega (arith, above))
@@ -189,7 +186,7 @@ module _ (shard : ℕ) (start : Start) (passes : List Pass) (h : History) (phase
   pub closed : ((lane : ℕ) → lane < 8 → last lane ≡ []) → IsOneHistory shard start h phases (last 8)
   closed few =
       closed_of shard start h phases last (λ lane other. dite (dec_le 8 lane) (λ above. w.order.nine lane (omega (arith, above, other))) (λ under. few lane (omega (arith, under))))
-      (all_back (StandsIn h) (events_of_lane 8 phases) (last 8) (holds 8).1) told_of
+      (all_behind (StandsIn h) (events_of_lane 8 phases) (last 8) (holds 8).1) told_of
 
 pub work_is_told : WorkIsTold
 work_is_told shard start passes h phases last w whole = told_of shard start passes h phases last w whole

@@ -1,16 +1,15 @@
 //! One shard, as it is opened and closed.
-ghost use Rattle.std.specs.Prelude.{◌≡◌, ◌≤◌, [], IsTrue, IfOk, IfErr, OnErr, length};
+ghost use Rattle.std.specs.Prelude.{◌≡◌, ◌≤◌, IsTrue, IfOk, IfErr, OnErr, length};
 ghost use Rattle.gor_disk.specs.Disk.{NothingPending};
-ghost use Rattle.gor_model.specs.Shares.{device_share};
 ghost use Rattle.gor_model.specs.Starts.{IsStart};
 ghost use Rattle.gor_model.specs.Windows.{slots_of_a_shard};
 ghost use Rattle.gor_marks.specs.Spelling.{IsHome};
 ghost use Rattle.gor_image.specs.Images.{opens_to};
 ghost use Rattle.gor_recover.specs.Openings.{FaultCounts, IsMet};
 ghost use Rattle.gor_recover.specs.Recovered.{recovered_start};
-ghost use Rattle.gor_flush.specs.Devices.{StandsFor, shown};
+ghost use Rattle.gor_flush.specs.Devices.{shown};
 ghost use Rattle.gor_flush.specs.Opening.{HoldsOn, IsUnwritten};
-ghost use Rattle.gor_flush.specs.Starts.{start_with};
+ghost use Rattle.gor_flush.specs.Starts.{start_with, StandsAtStart};
 ghost use Rattle.gor_image.specs.DiskSteps.{GoesOn};
 ghost use Rattle.gor_hall.specs.Halls.{start_of, lanes_of};
 ghost use Rattle.gor_store.specs.Shards.{AreFirst, AreIdle, BeginsFrom, HasClosed, IsFirst};
@@ -49,7 +48,7 @@ fn open_hall<D: Disk>(
     lanes: u32,
 ) -> Result<OpenShard<D>, Device<D>>
     requires start { IsStart (recovered_start slots recovered) }
-    requires device { StandsFor (shown D.tells D.view D.faults device) (start_with slots recovered (shown D.tells D.view D.faults device)) (device_share (start_with slots recovered (shown D.tells D.view D.faults device)) []) }
+    requires device { StandsAtStart slots recovered (shown D.tells D.view D.faults device) }
     requires lanes { (1 ≤ lanes) × (lanes ≤ 16) }
     ensures start { IfOk result (λ o. start_of o.hall ≡ start_with slots recovered (shown D.tells D.view D.faults device)) }
     ensures passes { IfOk result (λ o. AreFirst o.hall lanes o.passes.items) }

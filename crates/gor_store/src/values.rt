@@ -1,12 +1,11 @@
 //! The values of a shard's objects, as its opening recovered them.
 ghost use Rattle.std.specs.Prelude.{◌≡◌, ◌+◌, ◌≤◌, [], ◌++◌, map, length, vec_len, vec_capacity, IfOk, IfErr};
 ghost use Rattle.gor_model.specs.Objects.{objects};
-ghost use Rattle.gor_model.specs.Shares.{device_share};
 ghost use Rattle.gor_model.specs.Starts.{IsStart};
 ghost use Rattle.gor_hall.specs.Openings.{AllStand};
-ghost use Rattle.gor_flush.specs.Devices.{StandsFor, shown};
+ghost use Rattle.gor_flush.specs.Devices.{shown};
 ghost use Rattle.gor_flush.specs.Parts.{part_stands};
-ghost use Rattle.gor_flush.specs.Starts.{start_with};
+ghost use Rattle.gor_flush.specs.Starts.{start_with, StandsAtStart};
 ghost use Rattle.gor_flush.specs.declared.part.Part.TheVariants as part;
 ghost use Rattle.gor_recover.specs.Recovered.{recovered_start};
 ghost use Rattle.gor_store.specs.Shards.{IsFirst};
@@ -86,7 +85,7 @@ pub fn values_of<D: Disk>(
     slots: u32,
 ) -> Result<Vec<Part<D>>, Device<D>>
     requires start { IsStart (recovered_start slots recovered) }
-    requires device { StandsFor (shown D.tells D.view D.faults device) (start_with slots recovered (shown D.tells D.view D.faults device)) (device_share (start_with slots recovered (shown D.tells D.view D.faults device)) []) }
+    requires device { StandsAtStart slots recovered (shown D.tells D.view D.faults device) }
     ensures len { IfOk result (λ values. length values.items ≡ objects (start_with slots recovered (shown D.tells D.view D.faults device))) }
     ensures stand { IfOk result (λ values. AllStand (part_stands D.tells D.view D.faults) (start_with slots recovered (shown D.tells D.view D.faults device)) values.items []) }
     ensures first { IfOk result (λ values. IsFirst device values.items) }

@@ -12,7 +12,7 @@ use Rattle.gor_model.specs.declared.start.Start.{Start}
 use Rattle.gor_model.specs.Changes.{History, changed, changes}
 use Rattle.gor_model.specs.Windows.{window_end}
 use Rattle.gor_model.specs.PlainMap.{shard_floor, row_after, slots_after}
-use Rattle.gor_model.specs.Answers.{is_stop, is_take, is_stopped, since_take, before_take, weight, is_due, last_time, put_after, answer_put, answer_get, answer_del, answer_seal, unless_stopped, answer, slot_of_row, slot_begun, slot_put, slot_touched}
+use Rattle.gor_model.specs.Answers.{is_stop, is_take, is_stopped, since_take, before_take, weight, makes_due, is_due, last_time, put_after, answer_put, answer_get, answer_del, answer_seal, unless_stopped, answer, slot_of_row, slot_begun, slot_put, slot_touched}
 use Rattle.gor_text.specs.OneText.{call_at_rest, event_at_rest, IsSameHistory}
 
 changed_at_rest : (c : Call) (r : Reply) → changed (call_at_rest c) r ≡ changed c r
@@ -56,7 +56,7 @@ before_changes : (H : History) → changes (before_take (map event_at_rest H)) �
 before_changes H = ap changes (before_at_rest H) ∙ changes_at_rest (before_take H)
 
 due_at_rest : (H : History) → is_due (map event_at_rest H) ≡ is_due H
-due_at_rest H = ap (λ (C : List Change). nat_lt (sum_by weight C) 65536 && nat_le 65536 (sum_by weight C + 21)) (since_changes H)
+due_at_rest H = ap (λ (C : List Change). makes_due (sum_by weight C)) (since_changes H)
 
 after_at_rest : (start : Start) (H : History) (time : ℕ) (last : Option ℕ) → put_after start (map event_at_rest H) time last ≡ put_after start H time last
 after_at_rest start H time None = ap reply.Stored (due_at_rest H)

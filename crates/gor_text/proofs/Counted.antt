@@ -12,10 +12,10 @@ use Rattle.gor_model.specs.declared.event.Reply.{Reply}
 use Rattle.gor_model.specs.declared.event.Event.{Event}
 use Rattle.gor_model.specs.declared.start.Start.{Start}
 use Rattle.gor_model.specs.Changes.{History}
+use Rattle.gor_model.proofs.Lists.{all_mapped, all_joined, all_weaker}
 use Rattle.gor_text.specs.LineAnswers.{Act, Made, Refused, MergedPoints}
 use Rattle.gor_text.specs.Transcripts.{Served, Printed, Rises, StandsIn, IsPrinted, act_text, lane_text, phase_text_from, text_of, printed_act, printed_line, printed_lanes, printed_from}
 use Rattle.gor_text.specs.OneText.{HasOnlyLane, IsOfOneLane}
-use Rattle.gor_text.proofs.Interleavings.{all-append, all-map}
 use Rattle.gor_text.proofs.Orders.{are_range}
 
 -- ---- all lines in one list, and their acts
@@ -90,10 +90,6 @@ said_phases shard phase (lanes ∷ phases) =
 
 -- ---- one lane has all lines
 
-all_of : {X : Type 0} (P : X → Type 0) → ((x : X) → P x) → (xs : List X) → AllByRecursion P xs
-all_of P gives [] = tt
-all_of P gives (x ∷ xs) = (gives x, all_of P gives xs)
-
 act_lane : (shard phase lane : ℕ) (act : Act) → AllByRecursion (λ p. p.lane ≡ lane) (printed_act shard phase lane act)
 act_lane shard phase lane (Made s number call reply) = at (nat_eq s shard) refl where
   at : (b : Bool) → nat_eq s shard ≡ b → AllByRecursion (λ p. p.lane ≡ lane) (printed_act shard phase lane (Made s number call reply))
@@ -105,12 +101,12 @@ act_lane shard phase lane (MergedPoints points) = tt
 acts_lane : (shard phase lane : ℕ) (acts : List Act) → AllByRecursion (λ p. p.lane ≡ lane) (flat_map (printed_act shard phase lane) acts)
 acts_lane shard phase lane [] = tt
 acts_lane shard phase lane (act ∷ acts) =
-    all-append (λ p. p.lane ≡ lane) (printed_act shard phase lane act) (flat_map (printed_act shard phase lane) acts) (act_lane shard phase lane act) (acts_lane shard phase lane acts)
+    all_joined (λ p. p.lane ≡ lane) (printed_act shard phase lane act) (flat_map (printed_act shard phase lane) acts) (act_lane shard phase lane act) (acts_lane shard phase lane acts)
 
 pub lines_lane : (shard phase lane : ℕ) (lines : List Served) → AllByRecursion (λ p. p.lane ≡ lane) (flat_map (printed_line shard phase lane) lines)
 lines_lane shard phase lane [] = tt
 lines_lane shard phase lane (s ∷ lines) =
-    all-append (λ p. p.lane ≡ lane) (printed_line shard phase lane s) (flat_map (printed_line shard phase lane) lines) (acts_lane shard phase lane s.acts) (lines_lane shard phase lane lines)
+    all_joined (λ p. p.lane ≡ lane) (printed_line shard phase lane s) (flat_map (printed_line shard phase lane) lines) (acts_lane shard phase lane s.acts) (lines_lane shard phase lane lines)
 
 none_lanes : (shard phase lane : ℕ) (lanes : List (List Served)) → AllByRecursion (λ l. l ≡ []) lanes → printed_lanes shard phase lane lanes ≡ []
 none_lanes shard phase lane [] all = refl
@@ -119,17 +115,17 @@ none_lanes shard phase lane (lines ∷ lanes) all = rw all.0 (none_lanes shard p
 lanes_lane : (shard phase from lane : ℕ) (lanes : List (List Served)) → HasOnlyLane lane lanes → AllByRecursion (λ p. p.lane ≡ from + lane) (printed_lanes shard phase from lanes)
 lanes_lane shard phase from lane [] only = tt
 lanes_lane shard phase from zero (lines ∷ lanes) only =
-    all-append (λ p. p.lane ≡ from + 0) (flat_map (printed_line shard phase from) lines) (printed_lanes shard phase (from + 1) lanes)
-    (all-map (λ p. p.lane ≡ from) (λ p. p.lane ≡ from + 0) (λ p is. omega (arith, is)) _ (lines_lane shard phase from lines))
+    all_joined (λ p. p.lane ≡ from + 0) (flat_map (printed_line shard phase from) lines) (printed_lanes shard phase (from + 1) lanes)
+    (all_weaker (λ p. p.lane ≡ from) (λ p. p.lane ≡ from + 0) _ (λ p is. omega (arith, is)) (lines_lane shard phase from lines))
     (rw (none_lanes shard phase (from + 1) lanes only) tt)
 lanes_lane shard phase from (suc lane) (lines ∷ lanes) only =
-    rw only.0 (all-map (λ p. p.lane ≡ (from + 1) + lane) (λ p. p.lane ≡ from + suc lane) (λ p is. omega (arith, is)) _ (lanes_lane shard phase (from + 1) lane lanes only.1))
+    rw only.0 (all_weaker (λ p. p.lane ≡ (from + 1) + lane) (λ p. p.lane ≡ from + suc lane) _ (λ p is. omega (arith, is)) (lanes_lane shard phase (from + 1) lane lanes only.1))
 
 phases_lane : (shard phase lane : ℕ) (phases : List (List (List Served))) → IsOfOneLane lane phases → AllByRecursion (λ p. p.lane ≡ lane) (printed_from shard phase phases)
 phases_lane shard phase lane [] only = tt
 phases_lane shard phase lane (lanes ∷ phases) only =
-    all-append (λ p. p.lane ≡ lane) (printed_lanes shard phase 0 lanes) (printed_from shard (phase + 1) phases)
-    (all-map (λ p. p.lane ≡ 0 + lane) (λ p. p.lane ≡ lane) (λ p is. omega (arith, is)) _ (lanes_lane shard phase 0 lane lanes only.0)) (phases_lane shard (phase + 1) lane phases only.1)
+    all_joined (λ p. p.lane ≡ lane) (printed_lanes shard phase 0 lanes) (printed_from shard (phase + 1) phases)
+    (all_weaker (λ p. p.lane ≡ 0 + lane) (λ p. p.lane ≡ lane) _ (λ p is. omega (arith, is)) (lanes_lane shard phase 0 lane lanes only.0)) (phases_lane shard (phase + 1) lane phases only.1)
 
 -- the lines say which lanes have some
 none_served : (lanes : List (List Served)) → AllByRecursion (λ l. l ≡ []) (map (map (λ s. s.line)) lanes) → AllByRecursion (λ l. l ≡ []) lanes
@@ -186,13 +182,9 @@ each_with R S P gives (x ∷ xs) all each = (here xs all.1 each.0, each_with R S
   here [] more rels = tt
   here (y ∷ ys) more rels = (gives x y all.0 more.0 rels.0, here ys more.1 rels.1)
 
-pub all_of_map : {X Y : Type 0} (f : X → Y) (P : Y → Type 0) (xs : List X) → AllByRecursion (λ x. P (f x)) xs → AllByRecursion P (map f xs)
-all_of_map f P [] all = tt
-all_of_map f P (x ∷ xs) all = (all.0, all_of_map f P xs all.1)
-
 each_of_map : {X Y : Type 0} (f : X → Y) (R : Y → Y → Type 0) (xs : List X) → EachBefore (λ x y. R (f x) (f y)) xs → EachBefore R (map f xs)
 each_of_map f R [] each = tt
-each_of_map f R (x ∷ xs) each = (all_of_map f (λ y. R (f x) y) xs each.0, each_of_map f R xs each.1)
+each_of_map f R (x ∷ xs) each = (all_mapped (λ y. R (f x) y) f xs each.0, each_of_map f R xs each.1)
 
 pub map_twice : {X Y Z : Type 0} (f : X → Y) (g : Y → Z) (xs : List X) → map g (map f xs) ≡ map (λ x. g (f x)) xs
 map_twice f g [] = refl
@@ -231,7 +223,7 @@ all_are_told start shard lane phases H only printed =
     each_with Rises (λ (p q : Printed). p.number < q.number) (λ p. p.lane ≡ lane) (λ p q one also rises. rises (inr (one ∙ sym also))) (printed_from shard 0 phases) all printed.rising in
     record {
       numbers = numbers ∙ are_range (length H) (map (λ (p : Printed). p.number) (printed_from shard 0 phases)) printed.numbers (each_of_map (λ (p : Printed). p.number) ◌<◌ (printed_from shard 0 phases) rising);
-      each = subst (AllByRecursion (IsTold H lane)) same (all_of_map of_printed (IsTold H lane) (printed_from shard 0 phases) (told_as_printed H lane (printed_from shard 0 phases) all printed.stands));
+      each = subst (AllByRecursion (IsTold H lane)) same (all_mapped (IsTold H lane) of_printed (printed_from shard 0 phases) (told_as_printed H lane (printed_from shard 0 phases) all printed.stands));
     }
 
 -- ---- acts, one after another: each event has the next number of its shard

@@ -12,12 +12,12 @@ use Rattle.gor_model.specs.declared.point.Point.{Point}
 use Rattle.gor_model.specs.declared.point.Merged.{Merged}
 use Rattle.gor_model.specs.declared.event.Reply.{Reply}
 use Rattle.gor_model.specs.declared.event.Reply.TheVariants as reply
+use Rattle.gor_model.proofs.Lists.{all_joined, all_weaker}
 use Rattle.gor_text.specs.declared.answer.Reason.{Reason}
 use Rattle.gor_text.specs.declared.answer.Reason.TheVariants as reason
 use Rattle.gor_text.specs.LineAnswers.{Act, Made, Refused, MergedPoints}
 use Rattle.gor_text.specs.Spelling.{hex_digit, hex_digits, word_text, point_text, merged_text, reply_text, reason_text}
 use Rattle.gor_text.specs.Transcripts.{Served, Printed, act_text, lane_text, phase_text_from, text_of, printed_act, printed_line, printed_lanes, printed_from}
-use Rattle.gor_text.proofs.Interleavings.{all-append, all-map}
 
 -- ---- bytes that break no line, and digits
 
@@ -47,7 +47,7 @@ unfolding digits
 decimal_digits n = digits_are 64 n [] tt
 
 decimal_inside : (n : ℕ) → IsInside (decimal n)
-decimal_inside n = all-map IsDigit IsInLine (λ byte is. omega (arith, is.0)) (decimal n) (decimal_digits n)
+decimal_inside n = all_weaker IsDigit IsInLine (decimal n) (λ byte is. omega (arith, is.0)) (decimal_digits n)
 
 hex_inside : (d : ℕ) → IsInLine (hex_digit d)
 hex_inside d = by (nat_lt d 10) refl where
@@ -57,7 +57,7 @@ hex_inside d = by (nat_lt d 10) refl where
 
 hexes_inside : (count n : ℕ) → IsInside (hex_digits count n)
 hexes_inside zero n = tt
-hexes_inside (suc count) n = all-append IsInLine (hex_digits count (n / 16)) (hex_digit (n % 16) ∷ []) (hexes_inside count (n / 16)) (hex_inside (n % 16), tt)
+hexes_inside (suc count) n = all_joined IsInLine (hex_digits count (n / 16)) (hex_digit (n % 16) ∷ []) (hexes_inside count (n / 16)) (hex_inside (n % 16), tt)
 
 word_inside : (word : ℕ) → IsInside (word_text word)
 unfolding word_text
@@ -65,7 +65,7 @@ word_inside word = hexes_inside 16 word
 
 flat_inside : {X : Type 0} (f : X → List ℕ) → ((x : X) → IsInside (f x)) → (xs : List X) → IsInside (flat_map f xs)
 flat_inside f each [] = tt
-flat_inside f each (x ∷ xs) = all-append IsInLine (f x) (flat_map f xs) (each x) (flat_inside f each xs)
+flat_inside f each (x ∷ xs) = all_joined IsInLine (f x) (flat_map f xs) (each x) (flat_inside f each xs)
 
 above : (xs : List ℕ) → list_all (λ byte. nat_lt 10 byte) xs ≡ true → IsInside xs
 above [] all = tt
@@ -75,7 +75,7 @@ above (x ∷ xs) all = by (nat_lt 10 x) refl all (above xs) where
   by false is rest more = absurd (let both : false ≡ true = rw is at rest in cc)
 
 one_inside : (text more : List ℕ) → IsInside text → IsInside more → IsInside (text ++ more)
-one_inside text more inside rest = all-append IsInLine text more inside rest
+one_inside text more inside rest = all_joined IsInLine text more inside rest
 
 blank_inside : IsInside (codes " ")
 blank_inside = above (codes " ") refl
@@ -114,7 +114,7 @@ reply_inside reply.Absent seals = above (codes "absent") refl
 reply_inside reply.Gone seals = above (codes "gone") refl
 reply_inside (reply.Floor floor) seals = number_inside (codes "floor ") floor (above (codes "floor ") refl)
 reply_inside (reply.Sealed floor) seals = number_inside (codes "sealed ") floor (above (codes "sealed ") refl)
-reply_inside (reply.Seal name) seals = all-append IsInLine (codes "seal ") name (above (codes "seal ") refl) seals
+reply_inside (reply.Seal name) seals = all_joined IsInLine (codes "seal ") name (above (codes "seal ") refl) seals
 reply_inside (reply.Take count) seals = number_inside (codes "take ") count (above (codes "take ") refl)
 reply_inside (reply.Done count) seals = number_inside (codes "done ") count (above (codes "done ") refl)
 reply_inside reply.Stop seals = above (codes "stop") refl

@@ -3,7 +3,6 @@ use Rattle.std.proofs.Common.{◌≡◌, inl, inr, ℕ, zero, suc, ◌+◌, ◌<
 use Rattle.std.specs.Prelude.{map, filter, reverse, nat_eq, nat_le, slice_get, IsPermutation}
 use Rattle.std.specs.List.{AllByRecursion, range_with_len}
 use Rattle.std.proofs.lemmas.Bool.{le-leb, leb-true, leb-false, eqb-true, eqb-false}
-use mathlib.Core.List.{reverse-cons}
 use Rattle.std.proofs.lemmas.List.{append_assoc, reverse-append, length-reverse, length-append, map-append}
 use Rattle.std.proofs.lemmas.List.Sorted.{IsPermutation-refl, IsPermutation-sym, IsPermutation-trans, IsPermutation-cons, IsPermutation-middle, IsPermutation-append, IsPermutation-append_right, IsPermutation-map}
 use Rattle.gor_model.specs.Lists.{EachBefore}
@@ -11,37 +10,23 @@ use Rattle.gor_model.specs.declared.event.Event.{Event}
 use Rattle.gor_model.specs.declared.start.Start.{Start}
 use Rattle.gor_model.specs.Changes.{History}
 use Rattle.gor_model.specs.Answers.{Legal}
+use Rattle.gor_model.proofs.Lists.{all_joined, all_reverse, all_filter, all_weaker}
 use Rattle.gor_text.specs.Transcripts.{Served, Printed, Rises, StandsIn, IsPrinted, printed_from, printed_lanes}
 use Rattle.gor_text.specs.Interleaved.{printed_events, of_lane, LanesPrint, PhasesMade}
 
 -- ---- lists
 
-pub all-append : {X : Type 0} (P : X → Type 0) (xs ys : List X) → AllByRecursion P xs → AllByRecursion P ys → AllByRecursion P (xs ++ ys)
-all-append P [] ys all more = more
-all-append P (x ∷ xs) ys all more = (all.0, all-append P xs ys all.1 more)
-
-pub all-map : {X : Type 0} (P Q : X → Type 0) → ((x : X) → P x → Q x) → (xs : List X) → AllByRecursion P xs → AllByRecursion Q xs
-all-map P Q gives [] all = tt
-all-map P Q gives (x ∷ xs) all = (gives x all.0, all-map P Q gives xs all.1)
-
 each-append : {X : Type 0} (R : X → X → Type 0) (P Q : X → Type 0) → ((x y : X) → P x → Q y → R x y) → (xs ys : List X)
     → AllByRecursion P xs → AllByRecursion Q ys → EachBefore R xs → EachBefore R ys → EachBefore R (xs ++ ys)
 each-append R P Q between [] ys all more each later = later
 each-append R P Q between (x ∷ xs) ys all more each later =
-    (all-append (λ y. R x y) xs ys each.0 (all-map Q (λ y. R x y) (λ y q. between x y all.0 q) ys more), each-append R P Q between xs ys all.1 more each.1 later)
-
-pub all-filter : {X : Type 0} (P : X → Type 0) (p : X → Bool) (xs : List X) → AllByRecursion P xs → AllByRecursion P (filter p xs)
-all-filter P p [] all = tt
-all-filter P p (x ∷ xs) all = at (p x) refl (all-filter P p xs all.1) where
-  at : (b : Bool) → p x ≡ b → AllByRecursion P (filter p xs) → AllByRecursion P (filter p (x ∷ xs))
-  at true is rest = rw is (all.0, rest)
-  at false is rest = rw is rest
+    (all_joined (λ y. R x y) xs ys each.0 (all_weaker Q (λ y. R x y) ys (λ y q. between x y all.0 q) more), each-append R P Q between xs ys all.1 more each.1 later)
 
 pub each-filter : {X : Type 0} (R : X → X → Type 0) (p : X → Bool) (xs : List X) → EachBefore R xs → EachBefore R (filter p xs)
 each-filter R p [] each = tt
 each-filter R p (x ∷ xs) each = at (p x) refl (each-filter R p xs each.1) where
   at : (b : Bool) → p x ≡ b → EachBefore R (filter p xs) → EachBefore R (filter p (x ∷ xs))
-  at true is rest = rw is (all-filter (λ y. R x y) p xs each.0, rest)
+  at true is rest = rw is (all_filter (λ y. R x y) p xs each.0, rest)
   at false is rest = rw is rest
 
 pub filtered : {X : Type 0} (P : X → Type 0) (p : X → Bool) → ((x : X) → p x ≡ true → P x) → (xs : List X) → AllByRecursion P (filter p xs)
@@ -57,7 +42,7 @@ all_both P Q (x ∷ xs) all also = ((all.0, also.0), all_both P Q xs all.1 also.
 
 each-map : {X : Type 0} (R S : X → X → Type 0) → ((x y : X) → R x y → S x y) → (xs : List X) → EachBefore R xs → EachBefore S xs
 each-map R S gives [] each = tt
-each-map R S gives (x ∷ xs) each = (all-map (λ y. R x y) (λ y. S x y) (gives x) xs each.0, each-map R S gives xs each.1)
+each-map R S gives (x ∷ xs) each = (all_weaker (λ y. R x y) (λ y. S x y) xs (gives x) each.0, each-map R S gives xs each.1)
 
 range-append : (n a b : ℕ) → range_with_len n (a + b) ≡ range_with_len n a ++ range_with_len (n + a) b
 range-append n zero b =
@@ -83,13 +68,13 @@ within : (phase n high : ℕ) (events : List Event) → high ≡ n + length even
 within phase n high [] is = tt
 within phase n high (e ∷ later) is = (
   record { phase_is = refl; above = omega arith; below = omega (arith, is) },
-  all-map (Within phase (n + 1) high) (Within phase n high) (wider phase (n + 1) high n high (omega arith) (omega arith)) (printed_events phase (n + 1) later) (within phase (n + 1) high later (is ∙ omega arith)),
+  all_weaker (Within phase (n + 1) high) (Within phase n high) (printed_events phase (n + 1) later) (wider phase (n + 1) high n high (omega arith) (omega arith)) (within phase (n + 1) high later (is ∙ omega arith)),
 )
 
 numbers_rise : (phase n : ℕ) (events : List Event) → EachBefore (λ p q. p.number < q.number) (printed_events phase n events)
 numbers_rise phase n [] = tt
 numbers_rise phase n (e ∷ later) = (
-  all-map (Within phase (n + 1) (n + 1 + length later)) (λ q. n < q.number) (λ q w. omega (arith, w.above)) (printed_events phase (n + 1) later) (within phase (n + 1) (n + 1 + length later) later refl),
+  all_weaker (Within phase (n + 1) (n + 1 + length later)) (λ q. n < q.number) (printed_events phase (n + 1) later) (λ q w. omega (arith, w.above)) (within phase (n + 1) (n + 1 + length later) later refl),
   numbers_rise phase (n + 1) later,
 )
 
@@ -147,7 +132,7 @@ all_from (p ∷ made) = rw (le-leb 0 p.lane (omega arith)) (ap (λ (ps : List Pr
 lanes_hold : (shard phase lane : ℕ) (lanes : List (List Served)) (made : List Printed) (count : ℕ) → count ≡ lane + length lanes → AllByRecursion (λ p. p.lane < count) made
     → LanesPrint shard phase made lane lanes → IsPermutation (printed_lanes shard phase lane lanes) (filter (from_lane lane) made)
 lanes_hold shard phase lane [] made count is below prints =
-    rw (none_from lane made (all-map (λ p. p.lane < count) (λ p. p.lane < lane) (λ p b. omega (arith, b, is)) made below)) (IsPermutation-refl [])
+    rw (none_from lane made (all_weaker (λ p. p.lane < count) (λ p. p.lane < lane) made (λ p b. omega (arith, b, is)) below)) (IsPermutation-refl [])
 lanes_hold shard phase lane (lines ∷ lanes) made count is below prints =
     rw (prints.0) (IsPermutation-trans _ _ _
     (IsPermutation-append_right (filter (of_lane lane) made) _ _ (lanes_hold shard phase (lane + 1) lanes made count (is ∙ omega arith) below prints.1))
@@ -165,16 +150,16 @@ pub record FromLane (phase lane low high : ℕ) (p : Printed) : Type 0 where
 
 one_lane : (phase lane low high : ℕ) (made : List Printed) → AllByRecursion (Within phase low high) made → AllByRecursion (InLane phase lane low high) (filter (of_lane lane) made)
 one_lane phase lane low high made all =
-    all-map (λ p. (p.lane ≡ lane) × Within phase low high p) (InLane phase lane low high) (λ p both. record { in_lane = both.0; inside = both.1 }) (filter (of_lane lane) made)
-    (all_both (λ p. p.lane ≡ lane) (Within phase low high) (filter (of_lane lane) made) (filtered (λ p. p.lane ≡ lane) (of_lane lane) (λ p is. eqb-true p.lane lane is) made) (all-filter (Within phase low high) (of_lane lane) made all))
+    all_weaker (λ p. (p.lane ≡ lane) × Within phase low high p) (InLane phase lane low high) (filter (of_lane lane) made) (λ p both. record { in_lane = both.0; inside = both.1 })
+    (all_both (λ p. p.lane ≡ lane) (Within phase low high) (filter (of_lane lane) made) (filtered (λ p. p.lane ≡ lane) (of_lane lane) (λ p is. eqb-true p.lane lane is) made) (all_filter (Within phase low high) (of_lane lane) made all))
 
 lanes_from : (shard phase lane low high : ℕ) (lanes : List (List Served)) (made : List Printed) → AllByRecursion (Within phase low high) made
     → LanesPrint shard phase made lane lanes → AllByRecursion (FromLane phase lane low high) (printed_lanes shard phase lane lanes)
 lanes_from shard phase lane low high [] made all prints = tt
 lanes_from shard phase lane low high (lines ∷ lanes) made all prints =
-    all-append (FromLane phase lane low high) _ _
-    (rw (prints.0) (all-map (InLane phase lane low high) (FromLane phase lane low high) (λ p w. record { later_lane = omega (arith, w.in_lane); inside = w.inside }) (filter (of_lane lane) made) (one_lane phase lane low high made all)))
-    (all-map (FromLane phase (lane + 1) low high) (FromLane phase lane low high) (λ p w. record { later_lane = omega (arith, w.later_lane); inside = w.inside }) (printed_lanes shard phase (lane + 1) lanes)
+    all_joined (FromLane phase lane low high) _ _
+    (rw (prints.0) (all_weaker (InLane phase lane low high) (FromLane phase lane low high) (filter (of_lane lane) made) (λ p w. record { later_lane = omega (arith, w.in_lane); inside = w.inside }) (one_lane phase lane low high made all)))
+    (all_weaker (FromLane phase (lane + 1) low high) (FromLane phase lane low high) (printed_lanes shard phase (lane + 1) lanes) (λ p w. record { later_lane = omega (arith, w.later_lane); inside = w.inside })
     (lanes_from shard phase (lane + 1) low high lanes made all prints.1))
 
 apart : (phase lane low high : ℕ) (p q : Printed) → InLane phase lane low high p → FromLane phase (lane + 1) low high q → Rises p q
@@ -195,7 +180,7 @@ lanes_keep : (P : Printed → Type 0) (shard phase lane : ℕ) (lanes : List (Li
     → LanesPrint shard phase made lane lanes → AllByRecursion P (printed_lanes shard phase lane lanes)
 lanes_keep P shard phase lane [] made all prints = tt
 lanes_keep P shard phase lane (lines ∷ lanes) made all prints =
-    all-append P _ _ (rw (prints.0) (all-filter P (of_lane lane) made all)) (lanes_keep P shard phase (lane + 1) lanes made all prints.1)
+    all_joined P _ _ (rw (prints.0) (all_filter P (of_lane lane) made all)) (lanes_keep P shard phase (lane + 1) lanes made all prints.1)
 
 -- ---- a whole run
 
@@ -216,11 +201,11 @@ run_behind shard phase H [] whole made = tt
 run_behind shard phase H (lanes ∷ phases) whole made =
     let news = made.0 in
     let longer = length-news news H in
-    all-append (Behind phase (length H)) (printed_lanes shard phase 0 lanes) (printed_from shard (phase + 1) phases)
+    all_joined (Behind phase (length H)) (printed_lanes shard phase 0 lanes) (printed_from shard (phase + 1) phases)
     (lanes_keep (Behind phase (length H)) shard phase 0 lanes (printed_events phase (length H) (reverse news))
-    (all-map (Within phase (length H) (length H + length (reverse news))) (Behind phase (length H)) (λ p w. record { later_phase = omega (arith, w.phase_is); above = w.above }) (printed_events phase (length H) (reverse news))
+    (all_weaker (Within phase (length H) (length H + length (reverse news))) (Behind phase (length H)) (printed_events phase (length H) (reverse news)) (λ p w. record { later_phase = omega (arith, w.phase_is); above = w.above })
     (within phase (length H) (length H + length (reverse news)) (reverse news) refl)) made.1.printed)
-    (all-map (Behind (phase + 1) (length (news ++ H))) (Behind phase (length H)) (λ p w. record { later_phase = omega (arith, w.later_phase); above = omega (arith, w.above, longer) }) (printed_from shard (phase + 1) phases)
+    (all_weaker (Behind (phase + 1) (length (news ++ H))) (Behind phase (length H)) (printed_from shard (phase + 1) phases) (λ p w. record { later_phase = omega (arith, w.later_phase); above = omega (arith, w.above, longer) })
     (run_behind shard (phase + 1) (news ++ H) phases whole made.2))
 
 later_phases : (phase low high : ℕ) (p q : Printed) → Within phase low high p → Behind (phase + 1) high q → Rises p q
@@ -258,14 +243,10 @@ run_stands shard phase H [] whole made = tt
 run_stands shard phase H (lanes ∷ phases) whole made =
     let news = made.0 in
     let later = whole_extends shard (phase + 1) (news ++ H) phases whole made.2 in
-    all-append (StandsIn whole) (printed_lanes shard phase 0 lanes) (printed_from shard (phase + 1) phases)
+    all_joined (StandsIn whole) (printed_lanes shard phase 0 lanes) (printed_from shard (phase + 1) phases)
     (lanes_keep (StandsIn whole) shard phase 0 lanes (printed_events phase (length H) (reverse news))
     (events_stand whole phase (reverse H) (reverse news) (reverse later.0) (length H) (sym (length-reverse H)) (turned whole later.0 news H later.1)) made.1.printed)
     (run_stands shard (phase + 1) (news ++ H) phases whole made.2)
-
-all-reverse : {X : Type 0} (P : X → Type 0) (xs : List X) → AllByRecursion P xs → AllByRecursion P (reverse xs)
-all-reverse P [] all = tt
-all-reverse P (x ∷ xs) all = rw (reverse-cons x xs) (all-append P (reverse xs) (x ∷ []) (all-reverse P xs all.1) (all.0, tt))
 
 -- the numbers in the text are those of the history from here on, each once
 run_numbers : (shard phase : ℕ) (H : History) (phases : List (List (List Served))) (whole : History) (count : ℕ) → PhasesMade shard phase H phases whole → length whole ≡ length H + count
@@ -285,7 +266,7 @@ run_numbers shard phase H (lanes ∷ phases) whole count made is =
     subst (IsPermutation (map (λ p. p.number) (printed_lanes shard phase 0 lanes))) (numbers_are phase (length H) (reverse news))
     (IsPermutation-map (λ p. p.number) _ _
     (subst (IsPermutation (printed_lanes shard phase 0 lanes)) (all_from events)
-    (lanes_hold shard phase 0 lanes events (length lanes) (omega arith) (lanes_below phase (length H) (length lanes) (reverse news) (all-reverse (λ e. e.lane < length lanes) news made.1.in_lanes)) made.1.printed))) in
+    (lanes_hold shard phase 0 lanes events (length lanes) (omega arith) (lanes_below phase (length H) (length lanes) (reverse news) (all_reverse (λ e. e.lane < length lanes) news made.1.in_lanes)) made.1.printed))) in
     let there : IsPermutation (map (λ p. p.number) (printed_from shard (phase + 1) phases)) (range_with_len (length H + more) (length later.0)) =
     subst (λ k. IsPermutation (map (λ p. p.number) (printed_from shard (phase + 1) phases)) (range_with_len k (length later.0))) longer
     (run_numbers shard (phase + 1) (news ++ H) phases whole (length later.0) made.2 (omega (arith, behind))) in

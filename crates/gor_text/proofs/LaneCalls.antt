@@ -10,6 +10,7 @@ use Rattle.gor_model.specs.declared.event.Call.TheVariants as call
 use Rattle.gor_model.specs.declared.event.Reply.{Reply}
 use Rattle.gor_model.specs.declared.event.Reply.TheVariants as reply
 use Rattle.gor_model.specs.Names.{key_of, shard_of}
+use Rattle.gor_model.proofs.Lists.{heads_of}
 use Rattle.gor_text.specs.declared.workload.Line.{Line}
 use Rattle.gor_text.specs.Spelling.{reply_text}
 use Rattle.gor_text.specs.LineAnswers.{Act, Made, Refused, MergedPoints, EndsTake, done, stopped, Flushes, taken, FollowsPut, Finishes, seal, FollowsFloor, Gets, none, refused, got, LineAnswers}
@@ -22,9 +23,6 @@ use Rattle.gor_text.proofs.Counted.{acts_of, Said, said_by, all_said}
 abbrev pub OwnsName : Call → Reply → Type 0
 OwnsName (call.Seal key w) (reply.Seal name) = key ≡ key_of name
 OwnsName _ _ = Unit {0}
-
-heads_of : {X : Type 0} (x y : X) (xs ys : List X) → x ∷ xs ≡ y ∷ ys → (x ≡ y) × (xs ≡ ys)
-heads_of {X} x y xs ys is = (ap (λ zs. elim zs as (λ _. X) [ [] ↦ x | z ∷ rest ↦ z ]) is, ap (λ zs. elim zs as (λ _. List X) [ [] ↦ xs | z ∷ rest ↦ rest ]) is)
 
 -- the second bytes of the replies of `done`, `stop`, `seal` and `take` differ
 second : (r p : Reply) → reply_text r ≡ reply_text p → get_or (reply_text r) 1 0 ≡ get_or (reply_text p) 1 0

@@ -5,11 +5,11 @@ use Rattle.std.specs.List.{AllByRecursion}
 use Rattle.std.proofs.lemmas.Bool.{eq-eqb, eqb-true}
 use Rattle.std.proofs.lemmas.List.{map-append}
 use Rattle.std.proofs.lemmas.List.Elements.{filter-append}
+use Rattle.gor_model.proofs.Lists.{filter_all, filter_none, all_joined, all_weaker}
 use Rattle.gor_text.specs.LineAnswers.{Act, Made, Refused, MergedPoints, LineAnswers}
 use Rattle.gor_text.specs.Transcripts.{Served, Printed, printed_line, printed_lanes, printed_from}
 use Rattle.gor_text.specs.Interleaved.{of_lane}
 use Rattle.gor_text.specs.OneHistory.{HasFewLanes}
-use Rattle.gor_text.proofs.Interleavings.{all-append, all-map}
 use Rattle.gor_text.proofs.Counted.{acts_of, Said, all_said, of_printed, said_lines, said_append, lines_lane}
 use Rattle.gor_text.proofs.NoStops.{AreBelow, line_below}
 use Rattle.gor_text.proofs.Decoded.{placed_acts, placed_lines, placed_lanes, placed_phases, IsPlacedAt}
@@ -41,17 +41,9 @@ nth_all P (suc lane) (lines ∷ lanes) all = nth_all P lane lanes all.1
 
 pub lane_all : {X : Type 0} (P : X → Type 0) (lane : ℕ) (phases : List (List (List X))) → AllByRecursion (AllByRecursion (AllByRecursion P)) phases → AllByRecursion P (lane_lines lane phases)
 lane_all P lane [] all = tt
-lane_all P lane (lanes ∷ phases) all = all-append P (nth_lane lane lanes) (lane_lines lane phases) (nth_all P lane lanes all.0) (lane_all P lane phases all.1)
+lane_all P lane (lanes ∷ phases) all = all_joined P (nth_lane lane lanes) (lane_lines lane phases) (nth_all P lane lanes all.0) (lane_all P lane phases all.1)
 
 -- ---- what is printed of one lane
-
-filter_all : {X : Type 0} (p : X → Bool) (xs : List X) → AllByRecursion (λ x. p x ≡ true) xs → filter p xs ≡ xs
-filter_all p [] all = refl
-filter_all p (x ∷ xs) all = rw (all.0) (ap (λ (ys : List _). x ∷ ys) (filter_all p xs all.1))
-
-filter_none : {X : Type 0} (p : X → Bool) (xs : List X) → AllByRecursion (λ x. p x ≡ false) xs → filter p xs ≡ []
-filter_none p [] all = refl
-filter_none p (x ∷ xs) all = rw (all.0) (filter_none p xs all.1)
 
 apart_lanes : (m n : ℕ) → (m ≡ n → ⊥) → nat_eq m n ≡ false
 apart_lanes m n apart = by (nat_eq m n) refl where
@@ -62,19 +54,19 @@ apart_lanes m n apart = by (nat_eq m n) refl where
 lanes_above : (shard phase from : ℕ) (lanes : List (List Served)) → AllByRecursion (λ p. from ≤ p.lane) (printed_lanes shard phase from lanes)
 lanes_above shard phase from [] = tt
 lanes_above shard phase from (lines ∷ lanes) =
-    all-append (λ p. from ≤ p.lane) (flat_map (printed_line shard phase from) lines) (printed_lanes shard phase (from + 1) lanes)
-    (all-map (λ p. p.lane ≡ from) (λ p. from ≤ p.lane) (λ p is. omega (arith, is)) (flat_map (printed_line shard phase from) lines) (lines_lane shard phase from lines))
-    (all-map (λ p. from + 1 ≤ p.lane) (λ p. from ≤ p.lane) (λ p more. omega (arith, more)) (printed_lanes shard phase (from + 1) lanes) (lanes_above shard phase (from + 1) lanes))
+    all_joined (λ p. from ≤ p.lane) (flat_map (printed_line shard phase from) lines) (printed_lanes shard phase (from + 1) lanes)
+    (all_weaker (λ p. p.lane ≡ from) (λ p. from ≤ p.lane) (flat_map (printed_line shard phase from) lines) (λ p is. omega (arith, is)) (lines_lane shard phase from lines))
+    (all_weaker (λ p. from + 1 ≤ p.lane) (λ p. from ≤ p.lane) (printed_lanes shard phase (from + 1) lanes) (λ p more. omega (arith, more)) (lanes_above shard phase (from + 1) lanes))
 
 lanes_said : (shard phase from lane : ℕ) (lanes : List (List Served)) → map of_printed (filter (of_lane (from + lane)) (printed_lanes shard phase from lanes)) ≡ all_said shard (acts_of (nth_lane lane lanes))
 lanes_said shard phase from lane [] = refl
 lanes_said shard phase from zero (lines ∷ lanes) =
     let here : filter (of_lane (from + 0)) (flat_map (printed_line shard phase from) lines) ≡ flat_map (printed_line shard phase from) lines =
     filter_all (of_lane (from + 0)) (flat_map (printed_line shard phase from) lines)
-    (all-map (λ p. p.lane ≡ from) (λ p. of_lane (from + 0) p ≡ true) (λ p is. eq-eqb p.lane (from + 0) (omega (arith, is))) (flat_map (printed_line shard phase from) lines) (lines_lane shard phase from lines)) in
+    (all_weaker (λ p. p.lane ≡ from) (λ p. of_lane (from + 0) p ≡ true) (flat_map (printed_line shard phase from) lines) (λ p is. eq-eqb p.lane (from + 0) (omega (arith, is))) (lines_lane shard phase from lines)) in
     let later : filter (of_lane (from + 0)) (printed_lanes shard phase (from + 1) lanes) ≡ [] =
     filter_none (of_lane (from + 0)) (printed_lanes shard phase (from + 1) lanes)
-    (all-map (λ p. from + 1 ≤ p.lane) (λ p. of_lane (from + 0) p ≡ false) (λ p more. apart_lanes p.lane (from + 0) (λ is. omega (arith, is, more))) (printed_lanes shard phase (from + 1) lanes) (lanes_above shard phase (from + 1) lanes)) in
+    (all_weaker (λ p. from + 1 ≤ p.lane) (λ p. of_lane (from + 0) p ≡ false) (printed_lanes shard phase (from + 1) lanes) (λ p more. apart_lanes p.lane (from + 0) (λ is. omega (arith, is, more))) (lanes_above shard phase (from + 1) lanes)) in
     ap (map of_printed) (filter-append (of_lane (from + 0)) (flat_map (printed_line shard phase from) lines) (printed_lanes shard phase (from + 1) lanes)
     ∙ (ap (λ (ys : List Printed). ys ++ filter (of_lane (from + 0)) (printed_lanes shard phase (from + 1) lanes)) here
     ∙ (ap (λ (ys : List Printed). flat_map (printed_line shard phase from) lines ++ ys) later ∙ append_none (flat_map (printed_line shard phase from) lines))))
@@ -86,7 +78,7 @@ lanes_said shard phase from (suc lane) (lines ∷ lanes) =
     let same : from + suc lane ≡ (from + 1) + lane = omega arith in
     let here : filter (of_lane (from + suc lane)) (flat_map (printed_line shard phase from) lines) ≡ [] =
     filter_none (of_lane (from + suc lane)) (flat_map (printed_line shard phase from) lines)
-    (all-map (λ p. p.lane ≡ from) (λ p. of_lane (from + suc lane) p ≡ false) (λ p is. apart_lanes p.lane (from + suc lane) (λ other. omega (arith, is, other))) (flat_map (printed_line shard phase from) lines) (lines_lane shard phase from lines)) in
+    (all_weaker (λ p. p.lane ≡ from) (λ p. of_lane (from + suc lane) p ≡ false) (flat_map (printed_line shard phase from) lines) (λ p is. apart_lanes p.lane (from + suc lane) (λ other. omega (arith, is, other))) (lines_lane shard phase from lines)) in
     ap (map of_printed) (filter-append (of_lane (from + suc lane)) (flat_map (printed_line shard phase from) lines) (printed_lanes shard phase (from + 1) lanes)
     ∙ ap (λ (ys : List Printed). ys ++ filter (of_lane (from + suc lane)) (printed_lanes shard phase (from + 1) lanes)) here)
     ∙ (ap (λ k. map of_printed (filter (of_lane k) (printed_lanes shard phase (from + 1) lanes))) same ∙ lanes_said shard phase (from + 1) lane lanes)
@@ -114,13 +106,13 @@ module _ (shards : ℕ) (some : 0 < shards) where
   lines_at : (lane : ℕ) (lines : List Served) → lane < 2 ^ 64 → AllByRecursion (λ s. LineAnswers shards s.line s.acts) lines → AllByRecursion (IsPlacedAt shards) (placed_lines lane lines)
   lines_at lane [] fits answers = tt
   lines_at lane (s ∷ lines) fits answers =
-      all-append (IsPlacedAt shards) (placed_acts lane s.acts) (placed_lines lane lines) (acts_at lane s.acts fits (line_below shards some s.line s.acts answers.0)) (lines_at lane lines fits answers.1)
+      all_joined (IsPlacedAt shards) (placed_acts lane s.acts) (placed_lines lane lines) (acts_at lane s.acts fits (line_below shards some s.line s.acts answers.0)) (lines_at lane lines fits answers.1)
 
   lanes_at : (lane : ℕ) (lanes : List (List Served)) → lane + length lanes ≤ 2 ^ 64 → AllByRecursion (AllByRecursion (λ s. LineAnswers shards s.line s.acts)) lanes → AllByRecursion (IsPlacedAt shards) (placed_lanes lane lanes)
   lanes_at lane [] fits answers = tt
   lanes_at lane (lines ∷ lanes) fits answers =
       let longer : length (lines ∷ lanes) ≡ suc (length lanes) = refl in
-      all-append (IsPlacedAt shards) (placed_lines lane lines) (placed_lanes (lane + 1) lanes) (lines_at lane lines (omega (arith, fits, longer)) answers.0)
+      all_joined (IsPlacedAt shards) (placed_lines lane lines) (placed_lanes (lane + 1) lanes) (lines_at lane lines (omega (arith, fits, longer)) answers.0)
       (lanes_at (lane + 1) lanes (omega (arith, fits, longer)) answers.1)
 
   pub phases_at : (phases : List (List (List Served))) → HasFewLanes (map (map (map (λ s. s.line))) phases) → AllByRecursion (AllByRecursion (AllByRecursion (λ s. LineAnswers shards s.line s.acts))) phases
@@ -128,4 +120,4 @@ module _ (shards : ℕ) (some : 0 < shards) where
   phases_at [] few answers = tt
   phases_at (lanes ∷ phases) few answers =
       let same : length (map (map (λ (s : Served). s.line)) lanes) ≡ length lanes = length_map (map (λ (s : Served). s.line)) lanes in
-      all-append (IsPlacedAt shards) (placed_lanes 0 lanes) (placed_phases phases) (lanes_at 0 lanes (omega (arith, few.0, same)) answers.0) (phases_at phases few.1 answers.1)
+      all_joined (IsPlacedAt shards) (placed_lanes 0 lanes) (placed_phases phases) (lanes_at 0 lanes (omega (arith, few.0, same)) answers.0) (phases_at phases few.1 answers.1)

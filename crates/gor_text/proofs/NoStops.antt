@@ -13,13 +13,13 @@ use Rattle.gor_model.specs.declared.event.Event.{Event}
 use Rattle.gor_model.specs.declared.start.Start.{Start}
 use Rattle.gor_model.specs.Changes.{History}
 use Rattle.gor_model.specs.Answers.{is_stop, is_stopped, answer, Legal}
+use Rattle.gor_model.proofs.Lists.{all_joined, all_mapped}
 use Rattle.gor_text.specs.declared.workload.Line.{Line}
 use Rattle.gor_text.specs.LineAnswers.{Act, Made, Refused, MergedPoints, EndsTake, done, stopped, Flushes, taken, FollowsPut, Finishes, seal, FollowsFloor, Gets, none, refused, got, LineAnswers}
 use Rattle.gor_text.specs.LineAnswers as told
 use Rattle.gor_text.specs.Transcripts.{Served, Printed, StandsIn, IsPrinted, before_number, printed_from}
 use Rattle.gor_text.specs.OneText.{StopsNothing}
-use Rattle.gor_text.proofs.Interleavings.{all-append}
-use Rattle.gor_text.proofs.Counted.{Said, all_said, acts_of, flat_phases, of_printed, said_phases, all_of_map}
+use Rattle.gor_text.proofs.Counted.{Said, all_said, acts_of, flat_phases, of_printed, said_phases}
 use Rattle.gor_text.proofs.SameActs.{history_at, legal_at, shard_below}
 
 -- ---- the acts of a line are of shards that are there
@@ -78,7 +78,7 @@ module _ (shards : ℕ) where
   line_below some _ _ (told.finish shard window n r rest below timely follows) = (below, floor_below shard window r rest below follows)
   line_below some _ _ (told.merge_range from to names turned) = (tt, tt)
   line_below some _ _ (told.merge from to names acts lists points range gets merged) =
-      all-append (IsBelow shards) acts (MergedPoints points ∷ []) (gets_below some from to names acts lists gets) (tt, tt)
+      all_joined (IsBelow shards) acts (MergedPoints points ∷ []) (gets_below some from to names acts lists gets) (tt, tt)
 
 -- ---- a Stop of the text is one of the history
 
@@ -109,7 +109,7 @@ all_there H (p ∷ ps) stands = (record { event = stands.0.event; at = stands.0.
 said_there : (start : Start) (shard : ℕ) (phases : List (List (List Served))) (H : History) → IsPrinted start (printed_from shard 0 phases) H
     → AllByRecursion (IsThere H) (all_said shard (acts_of (flat_phases phases)))
 said_there start shard phases H printed =
-    subst (AllByRecursion (IsThere H)) (said_phases shard 0 phases) (all_of_map of_printed (IsThere H) (printed_from shard 0 phases) (all_there H (printed_from shard 0 phases) printed.stands))
+    subst (AllByRecursion (IsThere H)) (said_phases shard 0 phases) (all_mapped (IsThere H) of_printed (printed_from shard 0 phases) (all_there H (printed_from shard 0 phases) printed.stands))
 
 module _ (shards : ℕ) (starts : ℕ → Start) (H : ℕ → History) (legal : (s : ℕ) → s < shards → Legal (starts s) (H s)) (goes : (s : ℕ) → s < shards → is_stopped (H s) ≡ false) where
   not_stop : (s n : ℕ) (c : Call) (r : Reply) → s < shards → IsThere (H s) (record { number = n; call = c; reply = r }) → StopsNothing (Made s n c r)
@@ -131,7 +131,7 @@ module _ (shards : ℕ) (starts : ℕ → Start) (H : ℕ → History) (legal : 
 all_acts_below : (shards : ℕ) → 0 < shards → (lines : List Served) → AllByRecursion (λ s. LineAnswers shards s.line s.acts) lines → AreBelow shards (acts_of lines)
 all_acts_below shards some [] answers = tt
 all_acts_below shards some (s ∷ lines) answers =
-    all-append (IsBelow shards) s.acts (acts_of lines) (line_below shards some s.line s.acts answers.0) (all_acts_below shards some lines answers.1)
+    all_joined (IsBelow shards) s.acts (acts_of lines) (line_below shards some s.line s.acts answers.0) (all_acts_below shards some lines answers.1)
 
 line_by_line : (lines : List Served) → AllByRecursion StopsNothing (acts_of lines) → AllByRecursion (λ s. AllByRecursion StopsNothing s.acts) lines
 line_by_line [] all = tt

@@ -17,14 +17,15 @@ use Rattle.gor_model.specs.Changes.{History, changes}
 use Rattle.gor_model.specs.Starts.{IsStart}
 use Rattle.gor_model.specs.PlainMap.{row_after}
 use Rattle.gor_model.specs.Answers.{answer, IsAnswered, Legal}
+use Rattle.gor_model.proofs.Lists.{heads_of, all_filter}
 use Rattle.gor_text.specs.LineAnswers.{LineAnswers}
 use Rattle.gor_text.specs.Transcripts.{Served, Printed, Rises, StandsIn, IsPrinted, before_number, printed_from}
 use Rattle.gor_text.specs.Interleaved.{of_lane}
 use Rattle.gor_text.specs.OneText.{call_at_rest, event_at_rest, IsSameHistory}
 use Rattle.gor_text.specs.OneHistory.{HasNames, HasFewLanes, PrintsNames, OneHistory}
-use Rattle.gor_text.proofs.Interleavings.{all-filter, each-filter, filtered}
+use Rattle.gor_text.proofs.Interleavings.{each-filter, filtered}
 use Rattle.gor_text.proofs.AtRest.{same_answer, same_slot}
-use Rattle.gor_text.proofs.Orders.{IsIn, in_contained, contained, all_in}
+use Rattle.gor_model.proofs.Orders.{IsIn, in_contained, contained, all_in}
 use Rattle.gor_text.proofs.Counted.{acts_of, Said, all_said, of_printed, each_with}
 use Rattle.gor_text.proofs.SameActs.{legal_at, before_more, same_event}
 use Rattle.gor_text.proofs.OneTexts.{before_all, length_map, length_range}
@@ -57,9 +58,6 @@ in_filter test (q ∷ ps) p holds (inr there) = by (test q) refl (in_filter test
   by : (b : Bool) → test q ≡ b → IsIn (filter test ps) p → IsIn (filter test (q ∷ ps)) p
   by true is rest = rw is (inr rest)
   by false is rest = rw is rest
-
-heads_of : {X : Type 0} (x y : X) (xs ys : List X) → x ∷ xs ≡ y ∷ ys → (x ≡ y) × (xs ≡ ys)
-heads_of {X} x y xs ys is = (ap (λ zs. elim zs as (λ _. X) [ [] ↦ x | z ∷ rest ↦ z ]) is, ap (λ zs. elim zs as (λ _. List X) [ [] ↦ xs | z ∷ rest ↦ rest ]) is)
 
 -- what is told of one lane
 filter_told : (lane : ℕ) (ps : List Printed) → map told_of (filter (of_lane lane) ps) ≡ filter (λ t. nat_eq t.lane lane) (map told_of ps)
@@ -192,7 +190,7 @@ module _ (shards shard : ℕ) (start : Start) (fits : IsStart start) (H K : Hist
       let paired : Paired shard n (map of_printed (filter (of_lane lane) (printed_from shard 0 served))) (map of_printed (filter (of_lane lane) (printed_from shard 0 other))) =
       pairs n same (filter (of_lane lane) (printed_from shard 0 served)) (filter (of_lane lane) (printed_from shard 0 other))
       (filter_told lane (printed_from shard 0 served) ∙ (ap (filter (λ t. nat_eq t.lane lane)) told ∙ sym (filter_told lane (printed_from shard 0 other))))
-      (all-filter (Sure start H) (of_lane lane) (printed_from shard 0 served) ours) (all-filter (Sure start K) (of_lane lane) (printed_from shard 0 other) theirs) in
+      (all_filter (Sure start H) (of_lane lane) (printed_from shard 0 served) ours) (all_filter (Sure start K) (of_lane lane) (printed_from shard 0 other) theirs) in
       let met : Meets shard n (all_said shard (acts_of (lane_lines lane served))) (all_said shard (acts_of (lane_lines lane other))) =
       lines_meet shard n shards (lane_lines lane served) (lane_lines lane other)
       (lane_map (λ (s : Served). s.line) lane served ∙ (ap (lane_lines lane) lines ∙ sym (lane_map (λ (s : Served). s.line) lane other)))
@@ -237,7 +235,7 @@ module _ (shards shard : ℕ) (start : Start) (fits : IsStart start) (H K : Hist
         grown p (all_in (StandsIn H) (printed_from shard 0 served) p first.stands it.1) it.2
         (find n (filter (of_lane p.lane) (printed_from shard 0 served)) (filter (of_lane p.lane) (printed_from shard 0 other))
         (filter_told p.lane (printed_from shard 0 served) ∙ (ap (filter (λ t. nat_eq t.lane p.lane)) told ∙ sym (filter_told p.lane (printed_from shard 0 other))))
-        (all-filter (StandsIn H) (of_lane p.lane) (printed_from shard 0 served) first.stands) (all-filter (StandsIn K) (of_lane p.lane) (printed_from shard 0 other) second.stands) (lane_rises p.lane) (lane_meets n same p.lane) p
+        (all_filter (StandsIn H) (of_lane p.lane) (printed_from shard 0 served) first.stands) (all_filter (StandsIn K) (of_lane p.lane) (printed_from shard 0 other) second.stands) (lane_rises p.lane) (lane_meets n same p.lane) p
         (in_filter (of_lane p.lane) (printed_from shard 0 served) p (eq-eqb p.lane p.lane refl) it.1) it.2)
 
   all_same : (n : ℕ) → n ≤ length H → SameTo n

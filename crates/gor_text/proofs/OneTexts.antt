@@ -8,10 +8,10 @@ use Rattle.gor_model.specs.declared.start.Start.{Start}
 use Rattle.gor_model.specs.Changes.{History}
 use Rattle.gor_model.specs.Starts.{IsStart}
 use Rattle.gor_model.specs.Answers.{Legal}
+use Rattle.gor_model.proofs.Lists.{heads_of, all_joined}
 use Rattle.gor_text.specs.LineAnswers.{Act, Made, Refused, MergedPoints, LineAnswers}
 use Rattle.gor_text.specs.Transcripts.{Served, act_text, before_number, FinishSeals}
 use Rattle.gor_text.specs.OneText.{IsOfOneLane, StopsNothing, event_at_rest, IsSameHistory, OneText}
-use Rattle.gor_text.proofs.Interleavings.{all-append}
 use Rattle.gor_text.proofs.Counted.{flat_lanes, flat_phases, acts_of, all_said, Said, line_text, AreTold, counted, bumped, Tells, SayOn, tells-append, all_tell, all_are_told, one_lane_served, one_lane_text}
 use Rattle.gor_text.proofs.NoStops.{never_stops}
 use Rattle.gor_text.proofs.SameActs.{act_at_rest, counted_at_rest, counted-append, Agree, line_same}
@@ -20,11 +20,11 @@ use Rattle.gor_text.proofs.SameActs.{act_at_rest, counted_at_rest, counted-appen
 
 all_flat : {X : Type 0} (P : X → Type 0) (lanes : List (List X)) → AllByRecursion (AllByRecursion P) lanes → AllByRecursion P (flat_lanes lanes)
 all_flat P [] all = tt
-all_flat P (lines ∷ lanes) all = all-append P lines (flat_lanes lanes) all.0 (all_flat P lanes all.1)
+all_flat P (lines ∷ lanes) all = all_joined P lines (flat_lanes lanes) all.0 (all_flat P lanes all.1)
 
 all_flatter : {X : Type 0} (P : X → Type 0) (phases : List (List (List X))) → AllByRecursion (AllByRecursion (AllByRecursion P)) phases → AllByRecursion P (flat_phases phases)
 all_flatter P [] all = tt
-all_flatter P (lanes ∷ phases) all = all-append P (flat_lanes lanes) (flat_phases phases) (all_flat P lanes all.0) (all_flatter P phases all.1)
+all_flatter P (lanes ∷ phases) all = all_joined P (flat_lanes lanes) (flat_phases phases) (all_flat P lanes all.0) (all_flatter P phases all.1)
 
 map_lanes : {X Y : Type 0} (f : X → Y) (lanes : List (List X)) → map f (flat_lanes lanes) ≡ flat_lanes (map (map f) lanes)
 map_lanes f [] = refl
@@ -79,9 +79,6 @@ pub before_all : (H : History) (n : ℕ) → n ≡ length H → before_number n 
 before_all H n is = ap (λ k. reverse (take k (reverse H))) (is ∙ sym (length-reverse H)) ∙ (ap reverse (take_whole (reverse H)) ∙ reverse-reverse H)
 
 -- ---- line by line
-
-heads_of : {X : Type 0} (x y : X) (xs ys : List X) → x ∷ xs ≡ y ∷ ys → (x ≡ y) × (xs ≡ ys)
-heads_of {X} x y xs ys is = (ap (λ zs. elim zs as (λ _. X) [ [] ↦ x | z ∷ rest ↦ z ]) is, ap (λ zs. elim zs as (λ _. List X) [ [] ↦ xs | z ∷ rest ↦ rest ]) is)
 
 module _ (shards lane : ℕ) (starts : ℕ → Start) (H K : ℕ → History) (some : 0 < shards)
     (fits : (s : ℕ) → s < shards → IsStart (starts s)) (legal : (s : ℕ) → s < shards → Legal (starts s) (H s)) (also_legal : (s : ℕ) → s < shards → Legal (starts s) (K s)) where

@@ -21,8 +21,8 @@ use Rattle.gor_model.specs.Answers.{is_stopped, is_due, last_time, put_after, an
 use Rattle.gor_model.proofs.PlainMapLaws.{row_after_change, row_after-cons}
 use Rattle.gor_model.proofs.SlotLaws.{bytes_tell, no_stray_seals}
 use Rattle.gor_model.proofs.LegalLaws.{legal_fits}
+use Rattle.gor_model.proofs.Lists.{all_weaker}
 use Rattle.gor_text.specs.OneHistory.{HasNames}
-use Rattle.gor_text.proofs.Interleavings.{all-map}
 use Rattle.gor_text.proofs.Decoded.{IsInLine, IsInside, SealsInLine}
 
 abbrev pub IsNamed : List ℕ → Option Row → Type 0
@@ -94,7 +94,7 @@ rows_named start fits named (e ∷ H) legal key = by (changed e.call e.reply) re
 -- ---- a printed name breaks no line, and has its key
 
 name_inside : (name : List ℕ) → IsName name → IsInside name
-name_inside name is = all-map (λ byte. (33 ≤ byte) × (byte ≢ 127)) IsInLine (λ byte plain. omega (arith, plain.0)) name is.plain
+name_inside name is = all_weaker (λ byte. (33 ≤ byte) × (byte ≢ 127)) IsInLine name (λ byte plain. omega (arith, plain.0)) is.plain
 
 -- the key that is sealed has a name
 abbrev pub NamesSeal : Start → History → Call → Type 0

@@ -32,6 +32,7 @@ use Rattle.gor_model.proofs.PlainMapLaws.{row_after-cons}
 use Rattle.gor_model.proofs.SlotLaws.{SlotsFit, slot_at, slots_fit, bytes_tell, no_stray_seals}
 use Rattle.gor_model.proofs.StartLaws.{start_fits}
 use Rattle.gor_model.proofs.LegalLaws.{legal_fits}
+use Rattle.gor_model.proofs.Lists.{all_weaker}
 use Rattle.gor_text.specs.declared.answer.Reason.{Reason}
 use Rattle.gor_text.specs.declared.answer.Reason.TheVariants as reason
 use Rattle.gor_text.specs.declared.workload.Line.{Line}
@@ -40,9 +41,8 @@ use Rattle.gor_text.specs.LineAnswers.{Act, Made, Refused, MergedPoints, EndsTak
 use Rattle.gor_text.specs.LineAnswers as told
 use Rattle.gor_text.specs.Transcripts.{before_number, AllSealed, ClosesAll, sealed_slot, SlotsRise, FinishSeals}
 use Rattle.gor_text.specs.OneText.{call_at_rest, event_at_rest, IsSameHistory, StopsNothing}
-use Rattle.gor_text.proofs.Interleavings.{all-map}
 use Rattle.gor_text.proofs.AtRest.{same_answer, same_slot, same_changes}
-use Rattle.gor_text.proofs.Orders.{one_merge}
+use Rattle.gor_model.proofs.Orders.{one_merge}
 use Rattle.gor_text.proofs.Counted.{IsToldAt, bumped, counted, Tells, tells-append}
 
 some_same : {X : Type 0} (x y : X) → Some x ≡ Some y → x ≡ y
@@ -323,7 +323,7 @@ module _ (shards lane : ℕ) (starts : ℕ → Start) (H K : ℕ → History)
   floor_below floor w end row low = omega (arith, end, low)
 
   all_above : (slot : ℕ) (x : ℕ) (xs : List ℕ) → slot < x → AllByRecursion (λ y. x < y) xs → AllByRecursion (λ y. slot < y) (x ∷ xs)
-  all_above slot x xs less all = (less, all-map (λ y. x < y) (λ y. slot < y) (λ y more. omega (arith, less, more)) xs all)
+  all_above slot x xs less all = (less, all_weaker (λ y. x < y) (λ y. slot < y) xs (λ y more. omega (arith, less, more)) all)
 
   rising_slots : (G : ℕ → History) (s n : ℕ) (ns : ℕ → ℕ) (k name : List ℕ) (w : ℕ) (rest : List Act) (it : Seals G s ns k w) → n ≡ ns s
       → SlotsRise (G s) (Made s n (call.Seal k w) (reply.Seal name) ∷ rest) → EachBefore ◌<◌ (it.row.slot ∷ flat_map (sealed_slot (G s)) rest)

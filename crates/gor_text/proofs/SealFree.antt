@@ -7,12 +7,12 @@ use Rattle.gor_model.specs.declared.event.Call.{Call}
 use Rattle.gor_model.specs.declared.event.Call.TheVariants as call
 use Rattle.gor_model.specs.declared.event.Reply.{Reply}
 use Rattle.gor_model.specs.declared.event.Reply.TheVariants as reply
+use Rattle.gor_model.proofs.Lists.{all_joined}
 use Rattle.gor_text.specs.declared.workload.Line.{Line}
 use Rattle.gor_text.specs.LineAnswers.{Act, Made, Refused, MergedPoints, EndsTake, done, stopped, Flushes, taken, FollowsPut, Gets, none, refused, got, LineAnswers}
 use Rattle.gor_text.specs.LineAnswers as told
 use Rattle.gor_text.specs.Transcripts.{Served, printed_act, printed_line, printed_lanes, printed_from}
 use Rattle.gor_text.specs.OneHistory.{FinishesNothing}
-use Rattle.gor_text.proofs.Interleavings.{all-append}
 
 abbrev pub SealsNothing : Call → Type 0
 SealsNothing (call.Seal key w) = ⊥
@@ -55,7 +55,7 @@ line_free shards _ _ (told.finish_window shard window below late) plain = absurd
 line_free shards _ _ (told.finish shard window n r rest below timely follows) plain = absurd plain
 line_free shards _ _ (told.merge_range from to names turned) plain = (tt, tt)
 line_free shards _ _ (told.merge from to names acts lists points range gets merged) plain =
-    all-append IsSealFree acts (MergedPoints points ∷ []) (gets_free shards from to names acts lists gets) (tt, tt)
+    all_joined IsSealFree acts (MergedPoints points ∷ []) (gets_free shards from to names acts lists gets) (tt, tt)
 
 -- ---- what is printed of such lines
 
@@ -70,7 +70,7 @@ act_free shard phase lane (MergedPoints points) free = tt
 acts_free : (shard phase lane : ℕ) (acts : List Act) → AllByRecursion IsSealFree acts → AllByRecursion (λ p. SealsNothing p.call) (flat_map (printed_act shard phase lane) acts)
 acts_free shard phase lane [] free = tt
 acts_free shard phase lane (act ∷ acts) free =
-    all-append (λ p. SealsNothing p.call) (printed_act shard phase lane act) (flat_map (printed_act shard phase lane) acts) (act_free shard phase lane act free.0) (acts_free shard phase lane acts free.1)
+    all_joined (λ p. SealsNothing p.call) (printed_act shard phase lane act) (flat_map (printed_act shard phase lane) acts) (act_free shard phase lane act free.0) (acts_free shard phase lane acts free.1)
 
 module _ (shards shard : ℕ) where
   abbrev Answered : Served → Type 0
@@ -80,19 +80,19 @@ module _ (shards shard : ℕ) where
       → AllByRecursion (λ p. SealsNothing p.call) (flat_map (printed_line shard phase lane) lines)
   lines_free phase lane [] answers plain = tt
   lines_free phase lane (s ∷ lines) answers plain =
-      all-append (λ p. SealsNothing p.call) (printed_line shard phase lane s) (flat_map (printed_line shard phase lane) lines)
+      all_joined (λ p. SealsNothing p.call) (printed_line shard phase lane s) (flat_map (printed_line shard phase lane) lines)
       (acts_free shard phase lane s.acts (line_free shards s.line s.acts answers.0 plain.0)) (lines_free phase lane lines answers.1 plain.1)
 
   lanes_free : (phase lane : ℕ) (lanes : List (List Served)) → AllByRecursion (AllByRecursion Answered) lanes → AllByRecursion (AllByRecursion FinishesNothing) (map (map (λ s. s.line)) lanes)
       → AllByRecursion (λ p. SealsNothing p.call) (printed_lanes shard phase lane lanes)
   lanes_free phase lane [] answers plain = tt
   lanes_free phase lane (lines ∷ lanes) answers plain =
-      all-append (λ p. SealsNothing p.call) (flat_map (printed_line shard phase lane) lines) (printed_lanes shard phase (lane + 1) lanes)
+      all_joined (λ p. SealsNothing p.call) (flat_map (printed_line shard phase lane) lines) (printed_lanes shard phase (lane + 1) lanes)
       (lines_free phase lane lines answers.0 plain.0) (lanes_free phase (lane + 1) lanes answers.1 plain.1)
 
   pub phases_free : (phase : ℕ) (phases : List (List (List Served))) → AllByRecursion (AllByRecursion (AllByRecursion Answered)) phases
       → AllByRecursion (AllByRecursion (AllByRecursion FinishesNothing)) (map (map (map (λ s. s.line))) phases) → AllByRecursion (λ p. SealsNothing p.call) (printed_from shard phase phases)
   phases_free phase [] answers plain = tt
   phases_free phase (lanes ∷ phases) answers plain =
-      all-append (λ p. SealsNothing p.call) (printed_lanes shard phase 0 lanes) (printed_from shard (phase + 1) phases)
+      all_joined (λ p. SealsNothing p.call) (printed_lanes shard phase 0 lanes) (printed_from shard (phase + 1) phases)
       (lanes_free phase 0 lanes answers.0 plain.0) (phases_free (phase + 1) phases answers.1 plain.1)

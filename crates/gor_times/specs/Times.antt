@@ -1,5 +1,5 @@
 -- Times behind a running state: what a block's times so far leave for the next one.
-use Rattle.std.specs.Prelude.{◌≡◌, ◌≢◌, ℕ, ◌+◌, ◌-◌, ◌*◌, ◌<◌, ◌≤◌, List, [], ◌∷◌, length, Bool, true, false, if◌then◌else◌}
+use Rattle.std.specs.Prelude.{◌≡◌, ◌≢◌, ℕ, ◌+◌, ◌-◌, ◌*◌, ◌<◌, ◌≤◌, List, [], ◌∷◌, length, map, Bool, true, false, if◌then◌else◌, Result, IsOkAnd}
 use Rattle.gor_model.specs.declared.point.Point.{Point}
 use Rattle.gor_model.specs.declared.unit.Unit.{Unit as TimeUnit}
 use Rattle.gor_model.specs.Windows.{window_length}
@@ -43,6 +43,10 @@ abbrev pub code_behind : TimeUnit → ℕ → List Point → ℕ → List Bool
 code_behind u w [] time = bits (first_width u) (time - w * window_length u)
 code_behind u w (p ∷ older) time = time_code (last_difference u w (p ∷ older)) (time - p.time)
 
+-- where the state is that of some points, the code of the next time is the model's behind these points
+abbrev pub CodesAsModel : TimeMark → ℕ → Type 0
+CodesAsModel m time = (points : List Point) → m ≡ mark_of m.unit m.window (map (λ p. p.time) points) → next_code m time ≡ code_behind m.unit m.window points time
+
 -- a time may stand next: it lies in the window, and is later than the last one
 pub record IsNext (m : TimeMark) (time : ℕ) : Type 0 where
   pub starts : m.last ≤ time
@@ -62,6 +66,10 @@ pub record IsExactly (m : TimeMark) (at time read next : ℕ) (after : TimeMark)
   pub same : read ≡ time
   pub place : next ≡ at + length (next_code m time)
   pub state : after ≡ mark_after m time
+
+-- where the code of a next time begins the bits, that time is read, whatever follows
+abbrev pub FindsTime : TimeMark → ℕ → List Bool → Result (ℕ × ℕ × TimeMark) TimeFault → Type 0
+FindsTime m at rest result = (time : ℕ) → IsNext m time → Begins (next_code m time) rest → IsOkAnd result (λ read. IsExactly m at time read.0 read.1 read.2)
 
 -- a whole code stands there, but no time that may stand next has it
 pub record IsNoNext (m : TimeMark) (rest : List Bool) : Type 0 where

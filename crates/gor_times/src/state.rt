@@ -4,7 +4,7 @@ ghost use Rattle.gor_bits.specs.BitString.{BitString};
 ghost use Rattle.gor_model.specs.declared.point.Point.{Point};
 ghost use Rattle.gor_model.specs.Windows.{window_length};
 ghost use Rattle.gor_model.specs.Codes.{first_width, Begins};
-ghost use Rattle.gor_times.specs.Times.{TimeMark, IsInside, IsNext, IsTimeAt, IsExactly, IsTimeFault, IsFirstFault, IsFaultBehind, first_mark, mark_after, mark_of, next_code, code_behind};
+ghost use Rattle.gor_times.specs.Times.{TimeMark, IsInside, IsNext, IsTimeAt, IsExactly, FindsTime, CodesAsModel, IsTimeFault, IsFirstFault, IsFaultBehind, first_mark, mark_after, mark_of, next_code, code_behind};
 
 use crate::change::{read_change, write_change};
 use crate::fault::TimeFault;
@@ -82,7 +82,7 @@ impl TimeState {
         ensures state { self.new ≡ mark_after self.old time }
         ensures bits { bits.new ≡ record { bits = bits.old.bits ++ next_code self.old time; spare = bits.old.spare - length (next_code self.old time) } }
         ensures alone { (other : ℕ) → IsNext self.old other → (after : List Bool) → Begins (next_code self.old other) (next_code self.old time ++ after) → other ≡ time }
-        ensures model { (points : List Point) → self.old ≡ mark_of self.old.unit self.old.window (map (λ p. p.time) points) → next_code self.old time ≡ code_behind self.old.unit self.old.window points time }
+        ensures model { CodesAsModel self.old time }
     {
         let difference = time - self.last;
         if self.begun {
@@ -102,7 +102,7 @@ impl TimeState {
     pub fn read(&self, bits: &Bits, at: usize) -> Result<(u64, usize, TimeState), TimeFault>
         ensures ok { IfOk result (λ read. IsTimeAt self.now (drop at bits.now.bits) at read.0 read.1 read.2) }
         ensures err { IfErr result (IsTimeFault self.now at (drop at bits.now.bits)) }
-        ensures found { (time : ℕ) → IsNext self.now time → Begins (next_code self.now time) (drop at bits.now.bits) → IsOkAnd result (λ read. IsExactly self.now at time read.0 read.1 read.2) }
+        ensures found { FindsTime self.now at (drop at bits.now.bits) result }
     {
         if self.begun {
             self.read_behind(bits, at)

@@ -1,5 +1,6 @@
 -- Words behind a running state: what a block's words so far leave for the next one.
-use Rattle.std.specs.Prelude.{◌≡◌, ℕ, ◌+◌, ◌-◌, ◌*◌, ◌%◌, ◌<◌, ◌≤◌, ◌^◌, List, [], ◌∷◌, ◌++◌, length, Bool, true, false, bit_xor, Option, None, Some, if◌then◌else◌, ⊤}
+use Rattle.std.specs.Prelude.{◌≡◌, ℕ, ◌+◌, ◌-◌, ◌*◌, ◌%◌, ◌<◌, ◌≤◌, ◌^◌, List, [], ◌∷◌, ◌++◌, length, Bool, true, false, bit_xor, Option, None, Some, if◌then◌else◌, ⊤, Result, IsOkAnd}
+use Rattle.gor_bits.specs.BitString.{BitString}
 use Rattle.gor_model.specs.Codes.{bits, Begins, ValueWindow, window_after, window_for, fits, changed_code}
 use Rattle.gor_values.specs.declared.fault.ValueFault.{ValueFault}
 use Rattle.gor_values.specs.declared.fault.ValueFault.TheVariants.{Short, Spelling}
@@ -86,6 +87,14 @@ pub record IsExactly (m : ValueMark) (at word read next : ℕ) (after : ValueMar
   pub same : read ≡ word
   pub place : next ≡ at + length (next_code m word)
   pub state : after ≡ mark_after m word
+
+-- where the code of a word begins the bits, that word is read, whatever follows
+abbrev pub FindsWord : ValueMark → ℕ → List Bool → Result (ℕ × ℕ × ValueMark) ValueFault → Type 0
+FindsWord m at rest result = (word : ℕ) → word < 2 ^ 64 → Begins (next_code m word) rest → IsOkAnd result (λ read. IsExactly m at word read.0 read.1 read.2)
+
+-- bits with a code behind them, in the room that was there
+abbrev pub with_code : List Bool → BitString → BitString
+with_code code before = record { bits = before.bits ++ code; spare = before.spare - length code }
 
 -- the word that a window of so many bits and a piece behind `11` make
 pub record Makes (w : Option ValueWindow) (lead len piece x : ℕ) : Type 0 where

@@ -2,7 +2,7 @@
 ghost use Rattle.std.specs.Prelude.{◌≡◌, ℕ, ◌+◌, ◌-◌, ◌*◌, ◌/◌, ◌^◌, ◌<◌, ◌≤◌, ◌++◌, length, drop, true, false, bit_xor, List, Bool, IfOk, IfErr, IsOkAnd};
 ghost use Rattle.gor_bits.specs.BitString.{BitString};
 ghost use Rattle.gor_model.specs.Codes.{Begins, changed_code, window_after, value_code};
-ghost use Rattle.gor_values.specs.Words.{ValueMark, first_mark, mark_after, mark_of, next_code, window_shown, IsWordAt, IsExactly, IsValueFault, IsNoChange, IsFirstFault};
+ghost use Rattle.gor_values.specs.Words.{ValueMark, first_mark, mark_after, mark_of, next_code, window_shown, IsWordAt, IsExactly, FindsWord, with_code, IsValueFault, IsNoChange, IsFirstFault};
 
 use crate::change::{is_held, read_changed};
 use crate::fault::ValueFault;
@@ -32,7 +32,7 @@ impl Model for ValueState {
 /// Writes the code of a change under a window, and gives the window after it.
 fn write_changed(bits: &mut Bits, window: Option<Window>, x: u64) -> Option<Window>
     requires { 77 ≤ bits.old.spare }
-    ensures bits { bits.new ≡ record { bits = bits.old.bits ++ changed_code (window_shown window) x; spare = bits.old.spare - length (changed_code (window_shown window) x) } }
+    ensures bits { bits.new ≡ with_code (changed_code (window_shown window) x) bits.old }
     ensures window { window_shown result ≡ window_after x (window_shown window) }
 {
     if x == 0 {
@@ -121,7 +121,7 @@ impl ValueState {
     pub fn read(&self, bits: &Bits, at: usize) -> Result<(u64, usize, ValueState), ValueFault>
         ensures ok { IfOk result (λ read. IsWordAt self.now (drop at bits.now.bits) at read.0 read.1 read.2) }
         ensures err { IfErr result (IsValueFault self.now at (drop at bits.now.bits)) }
-        ensures found { (word : ℕ) → word < 2 ^ 64 → Begins (next_code self.now word) (drop at bits.now.bits) → IsOkAnd result (λ read. IsExactly self.now at word read.0 read.1 read.2) }
+        ensures found { FindsWord self.now at (drop at bits.now.bits) result }
     {
         if self.begun {
             self.read_behind(bits, at)

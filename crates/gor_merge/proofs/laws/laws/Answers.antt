@@ -1,4 +1,4 @@
-use Rattle.gor_merge.proofs.OneOrder.{one_merge}
+use Rattle.gor_model.proofs.Orders.{one_merge}
 use Rattle.gor_merge.proofs.ReadsRise.{reads_rise}
 use Rattle.gor_merge.proofs.laws.laws.Goals as goal
 

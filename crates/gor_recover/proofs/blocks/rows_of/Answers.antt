@@ -1,7 +1,7 @@
 use Rattle.std.proofs.Common.{◌≡◌, false, sym, ◌∙◌}
 use Rattle.gor_model.specs.Fields.{wrong}
+use Rattle.gor_model.proofs.Lists.{all_places}
 use Rattle.gor_slab.specs.Reading.{unit_in, index_in, shown, IsInside}
-use Rattle.gor_block.proofs.ChainLaws.{each_of}
 use Rattle.gor_recover.specs.RowReads.{is_milli}
 use Rattle.gor_recover.proofs.BlockRows.{rows_found, rows_refused, rows_limited, rows_fit}
 use Rattle.gor_recover.proofs.blocks.rows_of.Goals as goal
@@ -12,7 +12,7 @@ returns-in-Ok-clause-read c =
     rows_found c.args.file c.args.bytes.now (shown c.in-Ok.index) seconds c.in-Ok.ensures.exact
 
 pub returns-in-Ok-clause-inside : goal.returns-in-Ok-clause-inside
-returns-in-Ok-clause-inside c = each_of (IsInside c.args.bytes.now) c.in-Ok.index.rows.items c.in-Ok.ensures.inside
+returns-in-Ok-clause-inside c = all_places (IsInside c.args.bytes.now) c.in-Ok.index.rows.items c.in-Ok.ensures.inside
 
 pub returns-in-Ok-clause-limits : goal.returns-in-Ok-clause-limits
 returns-in-Ok-clause-limits c = rows_limited c.args.file c.args.bytes.now (shown c.in-Ok.index) c.in-Ok.ensures.found

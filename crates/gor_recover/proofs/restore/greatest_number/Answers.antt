@@ -1,11 +1,11 @@
 use Rattle.std.proofs.Common.{◌+◌, ◌<◌, ◌^◌, map, drop, max, sym, ap, ◌∙◌, subst, arith}
 use Rattle.std.specs.Prelude.{filter_map}
 use Rattle.gor_model.specs.PlainMap.{greatest}
+use Rattle.gor_model.proofs.Lists.{drop_item}
 use Rattle.gor_image.specs.Recovery.{number_in}
 use Rattle.gor_recover.specs.Parts.{key_shown}
 use Rattle.gor_recover.specs.KeyReads.{AreKeysAt}
 use Rattle.gor_recover.proofs.Heights.{greatest_next}
-use Rattle.gor_recover.proofs.Loops.{drop_item}
 use Rattle.gor_recover.proofs.Restored.{number_low}
 use Rattle.gor_recover.proofs.restore.greatest_number.Goals as goal
 

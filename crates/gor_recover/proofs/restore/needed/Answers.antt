@@ -2,8 +2,8 @@ use Rattle.std.proofs.Common.{◌+◌, ◌<◌, map, drop, sym, ap, ◌∙◌, s
 use Rattle.std.specs.List.{AllByRecursion}
 use Rattle.gor_model.specs.PlainMap.{greatest}
 use Rattle.gor_model.specs.Windows.{slots_of_a_shard}
+use Rattle.gor_model.proofs.Lists.{drop_item}
 use Rattle.gor_recover.proofs.Heights.{greatest_one}
-use Rattle.gor_recover.proofs.Loops.{drop_item}
 use Rattle.gor_recover.proofs.restore.needed.Goals as goal
 
 pub loop-row-preserved : goal.loop-row-preserved

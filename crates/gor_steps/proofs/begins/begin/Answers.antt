@@ -1,5 +1,6 @@
 use Rattle.std.proofs.Common.{◌≡◌, ℕ, ◌+◌, Some, refl, sym, ap, subst, ◌∙◌, inl, inr, arith}
-use Rattle.std.specs.Prelude.{slice_get, ◌&&◌, nat_lt, nat_le}
+use Rattle.std.specs.Prelude.{slice_get}
+use Rattle.gor_model.specs.Answers.{makes_due}
 use Rattle.gor_model.specs.AnswersByShares.{due_by, weight_by}
 use Rattle.gor_model.specs.Names.{key_of}
 use Rattle.gor_model.specs.Shares.{DirectoryShare, journal_share}
@@ -42,7 +43,7 @@ mark-number-requires-clause-event g c =
     let key = key_of c.args.point.now.name.now in
     let all = c.args.all in
     let s = c.requires.stands in
-    let due : due_by (journal_share v.start v.at) ≡ c.is_due-due.result = (let weight : weight_by (journal_share v.start v.at) ≡ c.buffered.result = sym s.journal.buffered ∙ sym c.buffered.ensures in ap (λ (n : ℕ). nat_lt n 65536 && nat_le 65536 (n + 21)) weight ∙ sym c.is_due-due.ensures) in
+    let due : due_by (journal_share v.start v.at) ≡ c.is_due-due.result = (let weight : weight_by (journal_share v.start v.at) ≡ c.buffered.result = sym s.journal.buffered ∙ sym c.buffered.ensures in ap makes_due weight ∙ sym c.is_due-due.ensures) in
     let told = told_stored v c.requires.sound c.lane.result c.args.point.now c.requires.point all.directory s.directory c.requires.absent all.journal s.journal c.requires.running c.args.slot c.requires.free c.requires.open c.is_due-due.result due in
     let free = subst (λ (d : DirectoryShare). slice_get d.free 0 ≡ Some c.args.slot) s.directory c.requires.free in
     let m = absent_may v c.requires.sound c.lane.result c.args.point.now c.requires.point all.directory s.directory c.requires.absent (answer.Stored c.is_due-due.result) (Some c.args.slot) told free (held_all v c.args.slot all s) in

@@ -1,6 +1,6 @@
 use Rattle.std.proofs.Common.{◌≡◌, ℕ, ◌+◌, Bool, Some, false, sym, ap, subst, ◌∙◌}
-use Rattle.std.specs.Prelude.{◌&&◌, nat_lt, nat_le}
 use Rattle.gor_model.specs.declared.event.Reply.TheVariants as reply
+use Rattle.gor_model.specs.Answers.{makes_due}
 use Rattle.gor_model.specs.AnswersByShares.{unless_by, due_by, weight_by}
 use Rattle.gor_model.specs.Names.{key_of}
 use Rattle.gor_model.specs.Shares.{OfSeries}
@@ -18,7 +18,7 @@ returns-in-Stored c = record {
   told = λ share log st lg.
       let runs : log.stopped ≡ false = sym lg.stopped ∙ (sym c.stopped.ensures ∙ c.if-stopped.false) in
       let weight : weight_by log ≡ c.buffered.result = sym lg.buffered ∙ sym c.buffered.ensures in
-      let due : due_by log ≡ c.is_due-due.result = ap (λ (n : ℕ). nat_lt n 65536 && nat_le 65536 (n + 21)) weight ∙ sym c.is_due-due.ensures in
+      let due : due_by log ≡ c.is_due-due.result = ap makes_due weight ∙ sym c.is_due-due.ensures in
       c.in-Stored.ensures.reply share st log ∙ (ap (λ (b : Bool). unless_by b (reply.Stored (due_by log))) runs ∙ ap (λ (b : Bool). reply.Stored b) due);
   cell = λ share st. subst (λ (a : CellPut). cells.Stands c.put_reserved.new.self.live (Some (with_put (record { time = c.args.point.now.time; word = c.args.point.now.word }) a share))) (sym (c.in-Stored.ensures.answer share st)) (c.in-Stored.ensures.share share st);
   journal = λ share log st lg.

@@ -1,8 +1,9 @@
 use Rattle.std.proofs.Common.{◌≡◌, ℕ, ◌+◌, ◌-◌, ◌≤◌, List, [], ◌∷◌, ◌++◌, length, drop, sym, ap, ◌∙◌, arith}
 use Rattle.std.proofs.lemmas.List.{length-drop, drop-append-le}
+use Rattle.gor_model.proofs.Lists.{all_push}
 use Rattle.gor_slab.specs.declared.row.SlabRow.{SlabRow}
 use Rattle.gor_slab.specs.Spelling.{IsEntry, entry, blocks, row, rows_of}
-use Rattle.gor_slab.proofs.Writers.{all_push, rows_push, blocks_push}
+use Rattle.gor_slab.proofs.Writers.{rows_push, blocks_push}
 use Rattle.gor_slab.proofs.writing.SlabWriter.add.Goals as goal
 
 pub returns-clause-added : goal.returns-clause-added

@@ -8,21 +8,21 @@ use Rattle.gor_model.specs.declared.point.Point.{Point}
 use Rattle.gor_model.specs.declared.point.Merged.{Merged}
 use Rattle.gor_model.specs.Merges.{ComesBefore, IsMerged, placed_from}
 
-abbrev IsIn : {X : Type 0} → List X → X → Type 0
+abbrev pub IsIn : {X : Type 0} → List X → X → Type 0
 IsIn [] x = ⊥
 IsIn (y ∷ ys) x = (y ≡ x) ⊎ IsIn ys x
 
-in_contained : {X : Type 0} (xs : List X) (x : X) (k : ℕ) → k < length xs → slice_index_or xs k x ≡ x → IsIn xs x
+pub in_contained : {X : Type 0} (xs : List X) (x : X) (k : ℕ) → k < length xs → slice_index_or xs k x ≡ x → IsIn xs x
 in_contained [] x k below is = absurd (omega (arith, below))
 in_contained (y ∷ ys) x zero below is = inl is
 in_contained (y ∷ ys) x (suc k) below is = inr (in_contained ys x k (omega (arith, below)) is)
 
-contained : {X : Type 0} (xs : List X) (x : X) → IsIn xs x → Contains xs x
+pub contained : {X : Type 0} (xs : List X) (x : X) → IsIn xs x → Contains xs x
 contained [] x there = absurd there
 contained (y ∷ ys) x (inl is) = (0, omega arith, is)
 contained (y ∷ ys) x (inr there) = let c = contained ys x there in (suc c.0, omega (arith, c.1), c.2)
 
-all_in : {X : Type 0} (P : X → Type 0) (xs : List X) (x : X) → AllByRecursion P xs → IsIn xs x → P x
+pub all_in : {X : Type 0} (P : X → Type 0) (xs : List X) (x : X) → AllByRecursion P xs → IsIn xs x → P x
 all_in P [] x all there = absurd there
 all_in P (y ∷ ys) x all (inl is) = subst P is all.0
 all_in P (y ∷ ys) x all (inr there) = all_in P ys x all.1 there
@@ -49,10 +49,12 @@ module _ {X : Type 0} (R : X → X → Type 0) (apart : (x y : X) → R x y → 
       (λ z here. tails y x ys xs (sym same) also.0 z here (from z (inr here))) in
       ap (λ w. w ∷ xs) same ∙ ap (λ (zs : List X). y ∷ zs) rest
 
-  one_order : (xs ys : List X) → IsPermutation xs ys → EachBefore R xs → EachBefore R ys → xs ≡ ys
+  pub one_order : (xs ys : List X) → IsPermutation xs ys → EachBefore R xs → EachBefore R ys → xs ≡ ys
   one_order xs ys moved each also = same_elements xs ys each also (there xs ys moved) (there ys xs (IsPermutation-sym xs ys moved)) where
     there : (us vs : List X) → IsPermutation us vs → (z : X) → IsIn us z → IsIn vs z
     there us vs turned z here = let c = Contains-permutation us vs z turned (contained us z here) in in_contained vs z c.0 c.1 c.2
+
+-- ---- lists of points are merged in one way
 
 not_both : (p q : Merged) → ComesBefore p q → ComesBefore q p → ⊥
 not_both p q (inl a) (inl b) = omega (arith, a, b)
@@ -60,6 +62,6 @@ not_both p q (inl a) (inr b) = omega (arith, a, b.0)
 not_both p q (inr a) (inl b) = omega (arith, a.0, b)
 not_both p q (inr a) (inr b) = omega (arith, a.1, b.1)
 
-pub one_merge : (lists : List (List Point)) (a b : List Merged) → IsMerged lists a → IsMerged lists b → a ≡ b
-one_merge lists a b p q =
-    one_order ComesBefore not_both a b (IsPermutation-trans a (placed_from 0 lists) b (IsPermutation-sym (placed_from 0 lists) a p.same) q.same) p.ordered q.ordered
+pub one_merge : (lists : List (List Point)) (ps qs : List Merged) → IsMerged lists ps → IsMerged lists qs → ps ≡ qs
+one_merge lists ps qs a b =
+    one_order ComesBefore not_both ps qs (IsPermutation-trans ps (placed_from 0 lists) qs (IsPermutation-sym (placed_from 0 lists) ps a.same) b.same) a.ordered b.ordered
