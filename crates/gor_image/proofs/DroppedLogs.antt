@@ -21,7 +21,7 @@ use Rattle.gor_image.specs.FinishLaws.{IsUpTo, LowTopsHaveNoneBehind}
 use Rattle.gor_image.proofs.AppendLaw.{below_greatest, least_greatest}
 use Rattle.gor_image.proofs.FitStands.{bodies_keep, whole_walk}
 use Rattle.gor_image.proofs.LaterLogs.{logs_add, parts}
-use Rattle.gor_image.proofs.Lists.{all_append, all_weaker}
+use Rattle.gor_model.proofs.Lists.{all_push, all_weaker}
 use Rattle.gor_image.proofs.Pushed.{in_file_ok}
 use Rattle.gor_image.proofs.ReadBack.{after_ok, only_where}
 
@@ -79,7 +79,7 @@ batch_keeps_log P log own s t at body all is =
     let b = after_ok (log_at log at body) (λ b. if nat_lt (last_number s) b.first then Ok (s ++ b ∷ []) else wrong (at + 1) Order) t is in
     let both : Ok (s ++ b.0 ∷ []) ≡ Ok t = (only_where (nat_lt (last_number s) b.0.first) _ _ t b.2).1 in
     let it : s ++ b.0 ∷ [] ≡ t = cc in
-    subst (λ (l : List Batch). AllByRecursion (λ (x : Batch). P x.log) l) it (all_append (λ (x : Batch). P x.log) s b.0 all (subst P (sym (batch_of_log log at body b.0 b.1)) own))
+    subst (λ (l : List Batch). AllByRecursion (λ (x : Batch). P x.log) l) it (all_push (λ (x : Batch). P x.log) s b.0 all (subst P (sym (batch_of_log log at body b.0 b.1)) own))
 
 pub logs_keep : (P : ℕ → Type 0) (image : Contents) (logs : List ℕ) (s t : List Batch) → AllByRecursion P logs → AllByRecursion (λ (b : Batch). P b.log) s → read_logs image logs s ≡ Ok t → AllByRecursion (λ (b : Batch). P b.log) t
 logs_keep P image [] s t own all is = let both : Ok s ≡ Ok t = is in let it : s ≡ t = cc in subst (λ (l : List Batch). AllByRecursion (λ (b : Batch). P b.log) l) it all

@@ -26,9 +26,10 @@ use Rattle.gor_image.specs.Images.{in_file, read_walk, read_mark, read_blocks, l
 use Rattle.gor_image.specs.Turns.{IsInFile, is_live}
 use Rattle.gor_image.specs.FinishLaws.{BlocksAreInFile, BlocksStayLive, IsNotAbove}
 use Rattle.gor_image.proofs.FitStands.{bodies_keep, whole_walk}
-use Rattle.gor_image.proofs.Lists.{all_append, all_filter, all_weaker}
+use Rattle.gor_model.proofs.Lists.{all_push, all_filter, all_weaker}
 use Rattle.gor_image.proofs.Pushed.{in_file_ok}
-use Rattle.gor_image.proofs.ReadBack.{after_ok, from_ok, not_false, step_ok, truth, unless}
+use Rattle.gor_image.proofs.ReadBack.{after_ok, from_ok, not_false, truth, unless}
+use Rattle.gor_model.proofs.FieldLaws.{bind_ok}
 
 parts : (a b : Bool) → (a && b) ≡ true → (a ≡ true) × (b ≡ true)
 parts true true e = (refl, refl)
@@ -79,8 +80,8 @@ rows_low : (last room at place n : ℕ) (bytes : List ℕ) (rows : List SlabRow)
 unfolding rows_in
 rows_low last room at place zero bytes rows is = let both : Ok [] ≡ Ok rows = is in let it : [] ≡ rows = cc in subst (λ (l : List SlabRow). AllByRecursion (λ (r : SlabRow). r.window ≤ last) l) it tt
 rows_low last room at place (suc n) bytes rows is =
-    let one = step_ok (row_in last room at place bytes) _ rows is in
-    let more = step_ok (rows_in last room (at + 24) (place + one.0.length) n (drop 24 bytes)) _ rows one.2 in
+    let one = bind_ok (row_in last room at place bytes) _ rows is in
+    let more = bind_ok (rows_in last room (at + 24) (place + one.0.length) n (drop 24 bytes)) _ rows one.2 in
     let both : Ok (one.0 ∷ more.0) ≡ Ok rows = more.2 in
     let it : one.0 ∷ more.0 ≡ rows = cc in
     subst (λ (l : List SlabRow). AllByRecursion (λ (r : SlabRow). r.window ≤ last) l) it
@@ -89,10 +90,10 @@ rows_low last room at place (suc n) bytes rows is =
 index_low : (last : ℕ) (bytes : List ℕ) (i : Index) → index_in last bytes ≡ Ok i → AllByRecursion (λ (r : SlabRow). r.window ≤ last) i.rows
 unfolding index_in
 index_low last bytes i is =
-    let u = step_ok (unit_in bytes) _ i is in
-    let s = step_ok (sizes_in bytes) _ i u.2 in
-    let rows = step_ok (rows_in last s.0.room (24 + s.0.room) 0 s.0.rows (drop (24 + s.0.room) bytes)) _ i s.2 in
-    let padding = step_ok (padding_in s.0.room (used rows.0) bytes) _ i rows.2 in
+    let u = bind_ok (unit_in bytes) _ i is in
+    let s = bind_ok (sizes_in bytes) _ i u.2 in
+    let rows = bind_ok (rows_in last s.0.room (24 + s.0.room) 0 s.0.rows (drop (24 + s.0.room) bytes)) _ i s.2 in
+    let padding = bind_ok (padding_in s.0.room (used rows.0) bytes) _ i rows.2 in
     let both : Ok (index u.0 rows.0) ≡ Ok i = padding.2 in
     let it : index u.0 rows.0 ≡ i = cc in
     subst (λ (x : Index). AllByRecursion (λ (r : SlabRow). r.window ≤ last) x.rows) it (rows_low last s.0.room (24 + s.0.room) 0 s.0.rows (drop (24 + s.0.room) bytes) rows.0 rows.1)
@@ -187,7 +188,7 @@ mark_raises s t at (Sealed w k u f) all is =
     let it : s ++ Sealed w k u f ∷ [] ≡ t = cc in
     let above = not_false (is_above (base_of s).window w) p.0 in
     let last : last_of (filter_map sealed_window s ++ w ∷ []) ≡ Some w = last_push (filter_map sealed_window s) w in
-    let each = all_append (λ v. v ≤ w) (filter_map sealed_window s) w
+    let each = all_push (λ v. v ≤ w) (filter_map sealed_window s) w
     (all_weaker (IsNotAbove (base_of s).window) (λ v. v ≤ w) (filter_map sealed_window s) (λ x low. raise (base_of s).window w x above low) all) (omega arith) in
     subst (λ (l : List Mark). AllByRecursion (IsNotAbove (base_of l).window) (filter_map sealed_window l)) it
     (subst (λ (ws : List ℕ). AllByRecursion (IsNotAbove (last_of ws)) ws) (sym (filter_map-append sealed_window s (Sealed w k u f ∷ [])))

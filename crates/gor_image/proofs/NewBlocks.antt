@@ -14,15 +14,15 @@ use Rattle.gor_image.specs.Blocks.{points_in}
 use Rattle.gor_image.specs.Grammars.{Reads, and_then, first_row_at, row_read, rows_at, rows_read}
 use Rattle.gor_image.specs.FinishLaws.{AreEntriesOf, AreRowsOf, BlockFileIsRead}
 use Rattle.gor_image.proofs.BlockFound.{block_found}
-use Rattle.gor_image.proofs.ReadBack.{step_ok}
+use Rattle.gor_model.proofs.FieldLaws.{bind_ok}
 
 unit_read : (last : ℕ) (u : TimeUnit) (bytes : List ℕ) (rows : List SlabRow) → index_in last bytes ≡ Ok (index u rows) → unit_in bytes ≡ Ok u
 unfolding index_in
 unit_read last u bytes rows is =
-    let v = step_ok (unit_in bytes) _ (index u rows) is in
-    let s = step_ok (sizes_in bytes) _ (index u rows) v.2 in
-    let r = step_ok (rows_in last s.0.room (24 + s.0.room) 0 s.0.rows (drop (24 + s.0.room) bytes)) _ (index u rows) s.2 in
-    let p = step_ok (padding_in s.0.room (used r.0) bytes) _ (index u rows) r.2 in
+    let v = bind_ok (unit_in bytes) _ (index u rows) is in
+    let s = bind_ok (sizes_in bytes) _ (index u rows) v.2 in
+    let r = bind_ok (rows_in last s.0.room (24 + s.0.room) 0 s.0.rows (drop (24 + s.0.room) bytes)) _ (index u rows) s.2 in
+    let p = bind_ok (padding_in s.0.room (used r.0) bytes) _ (index u rows) r.2 in
     let both : Ok (index v.0 r.0) ≡ Ok (index u rows) = p.2 in
     let same : index v.0 r.0 ≡ index u rows = cc in
     v.1 ∙ ap Ok (ap (λ (i : Index). i.unit) same)

@@ -29,7 +29,7 @@ use Rattle.gor_image.proofs.AnyMarks.{reads_as}
 use Rattle.gor_image.proofs.DroppedLogs.{low_tops}
 use Rattle.gor_image.proofs.FitLaw.{FilesRead, files_read, stands_of_fit, store_low}
 use Rattle.gor_image.proofs.LaterLogs.{later_logs}
-use Rattle.gor_image.proofs.Lists.{all_weaker}
+use Rattle.gor_model.proofs.Lists.{all_weaker}
 use Rattle.gor_image.proofs.LiveBlocks.{blocks_are_in_file, blocks_stay_live}
 use Rattle.gor_image.proofs.LiveNames.{live_rows}
 use Rattle.gor_image.proofs.NewFiles.{live_list_is_read, new_log_is_empty}

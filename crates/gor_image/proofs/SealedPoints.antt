@@ -15,7 +15,7 @@ use Rattle.gor_image.specs.Turns.{is_up_to, is_behind, is_live, IsInFile}
 use Rattle.gor_image.specs.FinishLaws.{AreCopiesOf, AreOldBlocks, IsNotAbove, SealsAreCopied, SeriesRise, is_between}
 use Rattle.gor_image.proofs.Core.{Rises}
 use Rattle.gor_image.proofs.Filled.{kept_kept}
-use Rattle.gor_image.proofs.Lists.{all_filter, all_weaker}
+use Rattle.gor_model.proofs.Lists.{all_filter, all_weaker}
 use Rattle.gor_image.proofs.MarkLaw.{dropped_puts, puts_behind, split_at}
 
 -- ---- filters
