@@ -111,4 +111,4 @@ pub last_number_below : (n : ℕ) (batches : List Batch) → 0 < n → AllByRecu
 last_number_below n batches some below = by (last_of batches) refl where
   by : (o : Option Batch) → last_of batches ≡ o → or_zero (option_map (λ (b : Batch). b.last) (last_of batches)) < n
   by None e = rw e some
-  by (Some b) e = rw e (all_last (λ (c : Batch). c.last < n) batches b (all_unmapped (λ x. x < n) (λ (c : Batch). c.last) batches below) e)
+  by (Some b) e = rw e (all_last (λ (c : Batch). c.last < n) batches (all_unmapped (λ x. x < n) (λ (c : Batch). c.last) batches below) b e)

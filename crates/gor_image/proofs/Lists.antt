@@ -25,7 +25,7 @@ later_than_all t f (x ∷ xs) low rising last = at (is_kept f x) refl (later_tha
   by_last e rest None none = (last x (rw e (rw none refl)), rest (λ p is. absurd (let both : None ≡ Some p = sym none ∙ is in cc)))
   by_last e rest (Some l) some =
       let late : l.time < t = last l (rw e (rw some refl)) in
-      let early : x.time < l.time = all_last (λ p. x.time < p.time) (kept f xs) l (all_filter (λ p. x.time < p.time) (is_kept f) xs rising.0) some in
+      let early : x.time < l.time = all_last (λ p. x.time < p.time) (kept f xs) (all_filter (λ p. x.time < p.time) (is_kept f) xs rising.0) l some in
       (omega arith, rest (λ p is. let it : l ≡ p = (let both : Some l ≡ Some p = sym some ∙ is in cc) in subst (λ (q : Point). q.time < t) it late))
 
   at : (b : Bool) → is_kept f x ≡ b → (((p : Point) → last_of (kept f xs) ≡ Some p → p.time < t) → AllByRecursion (λ p. p.time < t) xs) → AllByRecursion (λ p. p.time < t) (x ∷ xs)

@@ -119,7 +119,7 @@ last_low : (batches : List Batch) → AreParts batches → last_number batches <
 last_low batches all = by (last_of batches) refl where
   by : (o : Option Batch) → last_of batches ≡ o → or_zero (option_map (λ b. b.last) o) < 2 ^ 63
   by None e = omega arith
-  by (Some b) e = (all_last IsPart batches b all e).range.below
+  by (Some b) e = (all_last IsPart batches all b e).range.below
 
 pub from_low : (files : Files) (upto : ℕ) (store : GatheredFiles) → AreGatheredOf files upto store → max upto store.logs.last < 2 ^ 63
 from_low files upto store is = let a = is.below in let b = subst (λ n. n < 2 ^ 63) (sym is.logs_are.last) (last_low files.batches is.parts) in omega arith
