@@ -7,7 +7,7 @@ use Rattle.gor_model.specs.declared.unit.Unit.TheVariants.{Second}
 use Rattle.gor_model.specs.Windows.{window_in}
 use Rattle.gor_model.specs.PlainMap.{last_of}
 use Rattle.gor_model.proofs.Lists.{last_push}
-use Rattle.gor_block.specs.PointBlock.{PointBlock, MayFollow, followed, last_time}
+use Rattle.gor_block.specs.PointBlock.{PointBlock, PointMayFollow, followed, last_time_of_block}
 use Rattle.gor_bench.specs.Steps.{IsBlockBefore}
 
 some_in : (points : List Point) (t : ℕ) → option_map (λ (p : Point). p.time) (last_of points) ≡ Some t → 1 ≤ length points
@@ -15,7 +15,7 @@ some_in [] t e = cc
 some_in (p ∷ points) t e = omega arith
 
 -- a block with a last time has a point
-pub some_point : (b : PointBlock) (t : ℕ) → last_time b ≡ Some t → 1 ≤ length b.points
+pub some_point : (b : PointBlock) (t : ℕ) → last_time_of_block b ≡ Some t → 1 ≤ length b.points
 some_point b t e = some_in b.points t e
 
 weaker : (o : Option ℕ) (m n : ℕ) → m ≤ n → IfSome o (λ t. t < m) → IfSome o (λ t. t < n)
@@ -28,10 +28,10 @@ divided w step few = omega arith
 inside : (u : TimeUnit) (time w step : ℕ) → u ≡ Second → time ≡ w * 7200 + 60 * step → step < 120 → window_in u time ≡ w
 inside u time w step is at few = subst (λ (v : TimeUnit). window_in v time ≡ w) (sym is) (ap (λ t. t / 7200) at ∙ divided w step few)
 
-pub may_follow : (b : PointBlock) (w step : ℕ) (p : Point) → IsBlockBefore b w step → step < 120 → p.time ≡ w * 7200 + 60 * step → MayFollow b p
+pub may_follow : (b : PointBlock) (w step : ℕ) (p : Point) → IsBlockBefore b w step → step < 120 → p.time ≡ w * 7200 + 60 * step → PointMayFollow b p
 may_follow b w step p before few at = record {
   inside = inside b.unit p.time w step before.unit at few ∙ sym before.window_is;
-  later = weaker (last_time b) (w * 7200 + 60 * step) p.time (omega arith) before.last;
+  later = weaker (last_time_of_block b) (w * 7200 + 60 * step) p.time (omega arith) before.last;
 }
 
 last_is : (points : List Point) (p : Point) → option_map (λ (q : Point). q.time) (last_of (points ++ p ∷ [])) ≡ Some p.time

@@ -8,7 +8,7 @@ use Rattle.gor_hall.specs.Openings.{AllStand}
 use Rattle.gor_hall.proofs.Passing.{same_some, none_some}
 use Rattle.gor_bench.specs.declared.first.Value.{Value}
 use Rattle.gor_bench.specs.declared.first.Value.TheVariants as value
-use Rattle.gor_bench.specs.FourSeries.{row_of, four_series, value_stands, AreFirst}
+use Rattle.gor_bench.specs.FourSeries.{letter_row, four_series, value_stands, AreFourSeries}
 
 abbrev seven : List Value
 seven = value.Other ∷ value.Other ∷ value.Series 97 0 ∷ value.Series 98 1 ∷ value.Series 99 2 ∷ value.Series 100 3 ∷ value.Other ∷ []
@@ -30,7 +30,7 @@ each (suc (suc (suc (suc (suc zero))))) x t = series_stands 5 100 3 x (same_some
 each (suc (suc (suc (suc (suc (suc zero)))))) x t = other_stands 6 x (same_some _ _ t)
 each (suc (suc (suc (suc (suc (suc (suc o))))))) x t = absurd (none_some x t)
 
-pub first_stand : (values : List Value) → AreFirst values → AllStand value_stands four_series values []
+pub first_stand : (values : List Value) → AreFourSeries values → AllStand value_stands four_series values []
 first_stand values is o x t = each o x (ap (λ (l : List Value). slice_get l o) (sym is) ∙ t)
 
 -- ---- it is a start
@@ -38,7 +38,7 @@ first_stand values is o x t = each o x (ap (λ (l : List Value). slice_get l o) 
 letters : (n : ℕ) → 97 ≤ n → n ≤ 122 → key_of (n ∷ []) ≡ n ∷ []
 letters n low high = plain_key (n ∷ []) (record { low = omega arith; high = omega arith; lower = inr (omega arith) }, tt)
 
-row_is : (n slot : ℕ) → 97 ≤ n → n ≤ 122 → slot < 4 → IsRow 4 (n ∷ []) (row_of n slot)
+row_is : (n slot : ℕ) → 97 ≤ n → n ≤ 122 → slot < 4 → IsRow 4 (n ∷ []) (letter_row n slot)
 row_is n slot low high few = record { keyed = sym (letters n low high); slot = few; uid = (omega arith, omega arith); floor = inl refl; rising = tt; timely = tt; kept = tt }
 
 heads : (a b : ℕ) (xs ys : List ℕ) → ◌≡◌ {A = List ℕ} (a ∷ xs) (b ∷ ys) → a ≡ b

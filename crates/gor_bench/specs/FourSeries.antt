@@ -9,8 +9,8 @@ use Rattle.gor_bench.specs.declared.first.Value.{Value}
 use Rattle.gor_bench.specs.declared.first.Value.TheVariants as value
 
 -- a series with a letter for its name, and no point
-abbrev pub row_of : ℕ → ℕ → Row
-row_of letter slot = record { name = letter ∷ []; slot = slot; uid = slot + 1; floor = 0; points = [] }
+abbrev pub letter_row : ℕ → ℕ → Row
+letter_row letter slot = record { name = letter ∷ []; slot = slot; uid = slot + 1; floor = 0; points = [] }
 
 -- the series `a` to `d`
 abbrev pub four_series : Start
@@ -18,7 +18,7 @@ four_series = record {
   slots = 4;
   floor = 0;
   next = 5;
-  rows = (97 ∷ [], row_of 97 0) ∷ (98 ∷ [], row_of 98 1) ∷ (99 ∷ [], row_of 99 2) ∷ (100 ∷ [], row_of 100 3) ∷ [];
+  rows = (97 ∷ [], letter_row 97 0) ∷ (98 ∷ [], letter_row 98 1) ∷ (99 ∷ [], letter_row 99 2) ∷ (100 ∷ [], letter_row 100 3) ∷ [];
   shards = 0;
   shard = 0;
   since = 0;
@@ -28,14 +28,14 @@ four_series = record {
 
 -- the share of a slot is that of its series; of another object nothing is said
 abbrev pub value_stands : Start → ℕ → Value → Share → Type 0
-value_stands start o (value.Series letter slot) share = share ≡ OfSlot (Some (record { key = letter ∷ []; row = row_of letter slot }))
+value_stands start o (value.Series letter slot) share = share ≡ OfSlot (Some (record { key = letter ∷ []; row = letter_row letter slot }))
 value_stands start o value.Other share = ⊤
 
 -- the value stands for the object's share as the view has it
-abbrev pub Stands : View → ℕ → Value → Type 0
-Stands v o x = value_stands v.start o x (share_of v.start o v.at)
+abbrev pub ValueStands : View → ℕ → Value → Type 0
+ValueStands v o x = value_stands v.start o x (share_of v.start o v.at)
 
 -- seven values, of which four are those of the series
-abbrev pub AreFirst : List Value → Type 0
-AreFirst values =
+abbrev pub AreFourSeries : List Value → Type 0
+AreFourSeries values =
     values ≡ value.Other ∷ value.Other ∷ value.Series 97 0 ∷ value.Series 98 1 ∷ value.Series 99 2 ∷ value.Series 100 3 ∷ value.Other ∷ []

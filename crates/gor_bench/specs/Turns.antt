@@ -6,5 +6,5 @@ use Rattle.gor_hall.specs.Halls.{IsPassOf}
 use Rattle.gor_hall.specs.Passes.{held}
 
 -- the pass is one of the hall's, and holds nothing
-abbrev pub IsIdle : {V : Type 0} → Hall V → Pass → Type 0
-IsIdle hall pass = IsPassOf hall pass × (held pass ≡ [])
+abbrev pub PassHoldsNothing : {V : Type 0} → Hall V → Pass → Type 0
+PassHoldsNothing hall pass = IsPassOf hall pass × (held pass ≡ [])

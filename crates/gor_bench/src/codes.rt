@@ -1,6 +1,6 @@
 //! The codes of times and words: blocks of two hours with a point a minute, written to a list of bits and read from it.
 ghost use Rattle.std.specs.Prelude.{◌≡◌, ◌+◌, ◌<◌, ◌≤◌};
-ghost use Rattle.gor_bench.specs.Steps.{IsBefore};
+ghost use Rattle.gor_bench.specs.Steps.{IsBeforeStep};
 
 use crate::fault::Fault;
 use crate::report::{Spent, nanos_since, now, print_row, tenths};
@@ -69,9 +69,9 @@ fn push_time(
     step: usize,
     late: u64,
 ) -> Result<(), AllocError>
-    requires before { IsBefore state.old window step }
+    requires before { IsBeforeStep state.old window step }
     requires inside { step < 120 }
-    ensures { IsBefore state.new window (step + 1) }
+    ensures { IsBeforeStep state.new window (step + 1) }
 {
     bits.reserve(TIME_BITS)?;
     state.write(bits, window as u64 * 7200 + 60 * step as u64 + late % 8);

@@ -1,6 +1,6 @@
 //! The values of a hall of four series, `a` to `d`, in four slots.
 ghost use Rattle.std.specs.Prelude.{IfOk};
-ghost use Rattle.gor_bench.specs.FourSeries.{four_series, AreFirst};
+ghost use Rattle.gor_bench.specs.FourSeries.{four_series, AreFourSeries};
 
 use gor_rule::{Begins, Thing};
 use std::alloc::{AllocError, Global};
@@ -29,7 +29,7 @@ impl Thing for Value {
 
 /// The values of the seven objects, in order, each of which stands for its share of the empty history from `FourSeries`.
 pub fn first_values(alloc: Global) -> Result<Vec<Value>, AllocError>
-    ensures { IfOk result (λ values. AreFirst values.items) }
+    ensures { IfOk result (λ values. AreFourSeries values.items) }
 {
     let values = [
         Value::Other,

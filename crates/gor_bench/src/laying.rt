@@ -4,9 +4,9 @@ ghost use Rattle.std.specs.List.{AllByRecursion};
 ghost use Rattle.gor_model.specs.Fields.{IsNumber};
 ghost use Rattle.gor_model.specs.Windows.{last_time_in};
 ghost use Rattle.gor_model.specs.declared.unit.Unit.TheVariants.{Second};
-ghost use Rattle.gor_keys.specs.Spelling.{InLimits as IsKey};
-ghost use Rattle.gor_log.specs.Spelling.{IsRecord};
-ghost use Rattle.gor_marks.specs.Spelling.{InLimits};
+ghost use Rattle.gor_keys.specs.Spelling.{KeyRecordInLimits};
+ghost use Rattle.gor_log.specs.Spelling.{IsLogRecord};
+ghost use Rattle.gor_marks.specs.Spelling.{MarkInLimits};
 
 use crate::blocks::{block_of, bytes_of};
 use crate::fault::Fault;
@@ -52,7 +52,7 @@ fn write_file(disk: &mut MemoryDisk, file: FileId, bytes: &[u8]) -> Result<(), F
 
 /// The first mark of a store, and behind it a mark for each window, behind the puts of which nothing was logged.
 fn mark_of(number: u8) -> Mark
-    ensures { InLimits result }
+    ensures { MarkInLimits result }
 {
     if number == 0 {
         return Mark::Home {
@@ -106,7 +106,7 @@ fn uid_of(number: u16) -> u64
 /// The record of a series, as the change that began it or as what stood at a finish.
 fn key_of(number: u16, name: Name, is_live: bool) -> KeyRecord
     requires { number ≤ 1000 }
-    ensures { IsKey Second result }
+    ensures { KeyRecordInLimits Second result }
 {
     let uid = uid_of(number);
     let slot = number as u32;
@@ -135,16 +135,16 @@ fn push_key(
     is_live: bool,
 ) -> Result<(), Fault>
     requires number { number ≤ 1000 }
-    requires records { AllByRecursion (IsKey Second) records.old.items }
-    ensures { OnOk result (AllByRecursion (IsKey Second) records.new.items) }
+    requires records { AllByRecursion (KeyRecordInLimits Second) records.old.items }
+    ensures { OnOk result (AllByRecursion (KeyRecordInLimits Second) records.new.items) }
 {
     records.push(key_of(number, name_of(alloc, number)?, is_live))?;
     Ok(())
 }
 
 fn push_keys(alloc: Global, records: &mut Vec<KeyRecord>, is_live: bool) -> Result<(), Fault>
-    requires { AllByRecursion (IsKey Second) records.old.items }
-    ensures { OnOk result (AllByRecursion (IsKey Second) records.new.items) }
+    requires { AllByRecursion (KeyRecordInLimits Second) records.old.items }
+    ensures { OnOk result (AllByRecursion (KeyRecordInLimits Second) records.new.items) }
 {
     for number in 0..SERIES {
         push_key(alloc, records, number, is_live)?;
@@ -179,7 +179,7 @@ fn time_at(step: u16) -> u64
 }
 
 fn put_of(words: &mut Series, step: u16, number: u16) -> LogRecord
-    ensures { IsRecord result }
+    ensures { IsLogRecord result }
 {
     LogRecord::Put {
         uid: uid_of(number),
@@ -195,8 +195,8 @@ fn push_put(
     step: u16,
     number: u16,
 ) -> Result<(), AllocError>
-    requires { AllByRecursion IsRecord records.old.items }
-    ensures { OnOk result (AllByRecursion IsRecord records.new.items) }
+    requires { AllByRecursion IsLogRecord records.old.items }
+    ensures { OnOk result (AllByRecursion IsLogRecord records.new.items) }
 {
     let put = put_of(words, step, number);
     records.push(put)?;
@@ -206,8 +206,8 @@ fn push_put(
 /// The puts of a batch, a put of each series in each of its steps.
 fn push_puts(records: &mut Vec<LogRecord>, words: &mut Series, first: u16) -> Result<(), AllocError>
     requires first { first ≤ 30000 }
-    requires records { AllByRecursion IsRecord records.old.items }
-    ensures { OnOk result (AllByRecursion IsRecord records.new.items) }
+    requires records { AllByRecursion IsLogRecord records.old.items }
+    ensures { OnOk result (AllByRecursion IsLogRecord records.new.items) }
 {
     for put in 0..BATCH * SERIES {
         push_put(records, words, first + put / SERIES, put % SERIES)?;

@@ -3,7 +3,7 @@ ghost use Rattle.std.specs.Prelude.{◌≡◌, ◌^◌, IfOk, IsTrue, map, true}
 ghost use Rattle.std.specs.List.{AllByRecursion};
 ghost use Rattle.gor_disk.specs.Disk.{NothingPending};
 ghost use Rattle.gor_store.specs.Lines.{is_taken};
-ghost use Rattle.gor_store.specs.Stores.{HasLeft, IsAtRest};
+ghost use Rattle.gor_store.specs.Stores.{PassesHaveLeft, IsAtRest};
 ghost use Rattle.gor_text.specs.Workloads.{phase_lines};
 ghost use Rattle.gor_bench.specs.Puts.{ArePuts, IsSmall};
 
@@ -116,13 +116,13 @@ pub fn read_phase(alloc: Global, text: &[u8]) -> Result<Phase, Fault>
 /// How many answers a phase had of each kind: puts that were stored, puts that came late or below the floor, and gets with two
 /// hours of points.
 #[derive(Clone, Copy)]
-pub struct Told {
+pub struct AnswerCounts {
     pub stored: u64,
     pub late: u64,
     pub full: u64,
 }
 
-fn count(told: &mut Told, answer: &LaneAnswer) {
+fn count(told: &mut AnswerCounts, answer: &LaneAnswer) {
     match &answer.what {
         What::Event {
             reply: Reply::Stored { .. },
@@ -141,8 +141,8 @@ fn count(told: &mut Told, answer: &LaneAnswer) {
 }
 
 /// Counts the answers. The events of the flushes that puts made due are told behind them, and not counted.
-fn count_all(answers: &[LaneAnswer]) -> Told {
-    let mut told = Told {
+fn count_all(answers: &[LaneAnswer]) -> AnswerCounts {
+    let mut told = AnswerCounts {
         stored: 0,
         late: 0,
         full: 0,
@@ -169,8 +169,8 @@ fn make_text(alloc: Global, answers: &[LaneAnswer]) -> Result<(), AllocError> {
 pub struct Served {
     pub put_nanos: u64,
     pub get_nanos: u64,
-    pub puts: Told,
-    pub gets: Told,
+    pub puts: AnswerCounts,
+    pub gets: AnswerCounts,
 }
 
 /// Runs two phases on a store, and makes the text of the first one's answers. Then it flushes.
@@ -182,7 +182,7 @@ fn serve<D: Disk + Send, R: Threads + Wait + Sync + Clock>(
     gets: &Phase,
 ) -> Result<Served, Fault>
     requires rests { IsAtRest store.old }
-    requires left { HasLeft (2 ^ 40) store.old }
+    requires left { PassesHaveLeft (2 ^ 40) store.old }
     requires puts { IsSmall (phase_lines puts.now) }
     requires gets { IsSmall (phase_lines gets.now) }
     ensures { IsAtRest store.new }

@@ -3,9 +3,9 @@ ghost use Rattle.std.specs.Prelude.{◌≡◌, ℕ, ◌+◌, ◌<◌, ◌≤◌,
 ghost use Rattle.gor_hall.specs.Halls.{IsPassOf, IsFirstPass, start_of, lanes_of};
 ghost use Rattle.gor_hall.specs.Passes.{view, held, at, lane_of};
 ghost use Rattle.gor_model.specs.Answers.{Legal};
-ghost use Rattle.gor_bench.specs.FourSeries.{four_series, row_of, Stands};
+ghost use Rattle.gor_bench.specs.FourSeries.{four_series, letter_row, ValueStands};
 ghost use Rattle.gor_bench.specs.Gets.{got};
-ghost use Rattle.gor_bench.specs.Turns.{IsIdle};
+ghost use Rattle.gor_bench.specs.Turns.{PassHoldsNothing};
 
 use crate::fault::Fault;
 use crate::first::{FourSeries, Value, first_values};
@@ -33,7 +33,7 @@ struct Got {
 }
 
 impl Says for Got {
-    ghost event = { λ g. got g.lane g.slot (g.letter ∷ []) 1 0 (row_of g.letter g.own) };
+    ghost event = { λ g. got g.lane g.slot (g.letter ∷ []) 1 0 (letter_row g.letter g.own) };
 }
 
 /// Makes one event at a series that is held, and leaves it as it was.
@@ -41,9 +41,9 @@ fn mark_held(hall: &Hall<Value>, pass: &mut Pass, slot: u32, value: Value)
     requires pass { IsPassOf hall.now pass.old × (held pass.old ≡ (slot + 2) ∷ []) }
     requires slot { slot < (start_of hall.now).slots }
     requires legal { Legal (view pass.old).start (at pass.old) }
-    requires stands { Stands (view pass.old) (slot + 2) value }
+    requires stands { ValueStands (view pass.old) (slot + 2) value }
     ensures pass { IsPassOf hall.now pass.new × (held pass.new ≡ (slot + 2) ∷ []) }
-    ensures stands { Stands (view pass.new) (slot + 2) value }
+    ensures stands { ValueStands (view pass.new) (slot + 2) value }
 {
     if pass.left() == 0 {
         return;
@@ -62,9 +62,9 @@ fn mark_held(hall: &Hall<Value>, pass: &mut Pass, slot: u32, value: Value)
 
 /// Takes a series, makes one event there if it is to, and gives it back.
 fn turn<R: Wait>(rt: &R, hall: &Hall<Value>, pass: &mut Pass, slot: u32, marks: bool)
-    requires pass { IsIdle hall.now pass.old }
+    requires pass { PassHoldsNothing hall.now pass.old }
     requires slot { (slot < 4) × ((start_of hall.now).slots ≡ 4) }
-    ensures { IsIdle hall.now pass.new }
+    ensures { PassHoldsNothing hall.now pass.new }
 {
     let value = hall.take(rt, pass, slot + 2);
     if marks {
@@ -74,9 +74,9 @@ fn turn<R: Wait>(rt: &R, hall: &Hall<Value>, pass: &mut Pass, slot: u32, marks: 
 }
 
 fn turns<R: Wait>(rt: &R, hall: &Hall<Value>, pass: &mut Pass, slot: u32, marks: bool)
-    requires pass { IsIdle hall.now pass.old }
+    requires pass { PassHoldsNothing hall.now pass.old }
     requires slot { (slot < 4) × ((start_of hall.now).slots ≡ 4) }
-    ensures { IsIdle hall.now pass.new }
+    ensures { PassHoldsNothing hall.now pass.new }
 {
     for _ in 0..TURNS {
         turn(rt, hall, pass, slot, marks);
@@ -91,9 +91,9 @@ fn run_all<R: Threads + Wait + Sync>(
     is_shared: bool,
     marks: bool,
 )
-    requires passes { All (λ pass. IsIdle hall.now pass) passes.old }
+    requires passes { All (λ pass. PassHoldsNothing hall.now pass) passes.old }
     requires slots { (start_of hall.now).slots ≡ 4 }
-    ensures back { (i : ℕ) (d : Pass) → i < length passes.old → IsIdle hall.now (slice_index_or passes.new i d) }
+    ensures back { (i : ℕ) (d : Pass) → i < length passes.old → PassHoldsNothing hall.now (slice_index_or passes.new i d) }
     ensures length { length passes.new ≡ length passes.old }
 {
     thread::for_each_mut(
@@ -101,8 +101,8 @@ fn run_all<R: Threads + Wait + Sync>(
         passes,
         16,
         &|lane: usize, pass: &mut Pass| -> ()
-            requires { IsIdle hall.now pass.old × ((start_of hall.now).slots ≡ 4) }
-            ensures { IsIdle hall.entry.now pass.new }
+            requires { PassHoldsNothing hall.now pass.old × ((start_of hall.now).slots ≡ 4) }
+            ensures { PassHoldsNothing hall.entry.now pass.new }
         { turns(rt, hall, pass, slot_of(lane, is_shared), marks) },
     );
 }
@@ -135,7 +135,7 @@ fn time_all<R: Threads + Wait + Sync + Clock>(
     marks: bool,
     wanted: u64,
 ) -> Result<u64, Fault>
-    requires passes { All (λ pass. IsIdle hall.now pass) passes.old }
+    requires passes { All (λ pass. PassHoldsNothing hall.now pass) passes.old }
     requires slots { (start_of hall.now).slots ≡ 4 }
 {
     let begin = now(rt)?;

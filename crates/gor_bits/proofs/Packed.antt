@@ -1,8 +1,8 @@
 -- Bytes that hold some bits and zero bits behind them.
 use Rattle.std.proofs.Common.{◌≡◌, ℕ, ◌+◌, ◌-◌, ◌*◌, ◌^◌, ◌<◌, ◌≤◌, List, ◌++◌, length, take, drop, replicate, Bool, false, refl, ap, ap₂, sym, ◌∙◌, arith, append_assoc, length-append, length-drop, length-take-le}
 use Rattle.std.proofs.lemmas.List.{append-nil, take_all, drop_all, take_at, take-append-le, drop-append-le, take-take, drop-replicate, length-replicate, replicate-append-replicate}
-use Rattle.gor_bits.specs.Spelled.{spelled, bits_of, overwritten, IsPacked}
-use Rattle.gor_bits.specs.BitString.{IsHeld}
+use Rattle.gor_bits.specs.Spelled.{spelled, bits_of, bits_overwritten, IsPacked}
+use Rattle.gor_bits.specs.BitString.{HoldsBits}
 use Rattle.gor_bits.proofs.Words.{length-spelled, spelled-zero}
 use Rattle.gor_bits.proofs.ByteBits.{length-bits_of, bits_of-append, bits_of-take, bits_of-replicate, drop_past}
 
@@ -19,7 +19,7 @@ pub packed_front : (bits : List Bool) (bytes : List ℕ) (len : ℕ) → IsPacke
 packed_front bits bytes len p e =
     ap (take len) p.whole ∙ take_at bits (replicate (8 * length bytes - length bits) false) len e
 
-pub held : (bits : List Bool) (bytes : List ℕ) (capacity len spare : ℕ) → IsPacked bits bytes → length bits ≡ len → len + spare ≤ 2 ^ 62 → len + spare ≤ 8 * capacity → IsHeld bytes capacity len spare
+pub held : (bits : List Bool) (bytes : List ℕ) (capacity len spare : ℕ) → IsPacked bits bytes → length bits ≡ len → len + spare ≤ 2 ^ 62 → len + spare ≤ 8 * capacity → HoldsBits bytes capacity len spare
 held bits bytes capacity len spare p e limit room =
     let front = packed_front bits bytes len p e in
     record { enough = omega (arith, packed_within bits bytes p, e); packed = rw front p; limit = limit; room = room }
@@ -35,7 +35,7 @@ packed_whole bytes len e =
 -- a piece written behind the bits, where zero bytes were put first
 pub packed_push : (bits piece : List Bool) (bytes more new : List ℕ) (count : ℕ) → IsPacked bits bytes → more ≡ replicate count 0 →
     length bits + length piece ≤ 8 * (length bytes + count) → 8 * (length bytes + count) < length bits + length piece + 8 →
-    bits_of new ≡ overwritten (bits_of (bytes ++ more)) (length bits) piece → IsPacked (bits ++ piece) new
+    bits_of new ≡ bits_overwritten (bits_of (bytes ++ more)) (length bits) piece → IsPacked (bits ++ piece) new
 packed_push bits piece bytes more new count p m within least e =
     let len = length bits in
     let pad = 8 * length bytes - len in
@@ -49,7 +49,7 @@ packed_push bits piece bytes more new count p m within least e =
     ∙ ap (λ (xs : List Bool). bits ++ xs) (replicate-append-replicate pad (8 * count) false) in
     let written : bits_of new ≡ bits ++ piece ++ replicate (pad + 8 * count - length piece) false =
     e
-    ∙ ap (λ (xs : List Bool). overwritten xs len piece) all
+    ∙ ap (λ (xs : List Bool). bits_overwritten xs len piece) all
     ∙ ap₂ (λ (xs ys : List Bool). xs ++ piece ++ ys) (take_at bits behind len refl) (drop_past (length piece) bits behind ∙ drop-replicate (length piece) (pad + 8 * count) false) in
     let both = length-append bits piece in
     let rest = pad + 8 * count - length piece in
@@ -60,7 +60,7 @@ packed_push bits piece bytes more new count p m within least e =
 
 -- the first bits, where all behind them is made zero
 pub packed_cut : (bytes new : List ℕ) (len count behind : ℕ) → len ≤ 8 * length bytes → 8 * count ≡ len + behind → behind < 8 → count ≤ length bytes →
-    bits_of new ≡ overwritten (bits_of (take count bytes)) len (spelled behind 0) → IsPacked (take len (bits_of bytes)) new
+    bits_of new ≡ bits_overwritten (bits_of (take count bytes)) len (spelled behind 0) → IsPacked (take len (bits_of bytes)) new
 packed_cut bytes new len count behind within e small fits w =
     let bits = bits_of bytes in
     let kept = take (8 * count) bits in
@@ -68,7 +68,7 @@ packed_cut bytes new len count behind within e small fits w =
     let lf : length (take len bits) ≡ len = length-take-le len bits (omega (arith, length-bits_of bytes)) in
     let written : bits_of new ≡ take len bits ++ replicate behind false =
     w
-    ∙ ap (λ (xs : List Bool). overwritten xs len (spelled behind 0)) (bits_of-take count bytes)
+    ∙ ap (λ (xs : List Bool). bits_overwritten xs len (spelled behind 0)) (bits_of-take count bytes)
     ∙ ap (λ (xs : List Bool). take len kept ++ spelled behind 0 ++ xs) (drop_all (len + length (spelled behind 0)) kept (omega (arith, length-spelled behind 0)))
     ∙ append-nil (take len kept ++ spelled behind 0)
     ∙ ap₂ (λ (xs ys : List Bool). xs ++ ys) (take-take len (8 * count) bits (omega arith)) (spelled-zero behind) in
@@ -77,25 +77,25 @@ packed_cut bytes new len count behind within e small fits w =
     let tail : behind ≡ 8 * length new - length (take len bits) = omega arith in
     record { least = omega arith; whole = written ∙ ap (λ n. take len bits ++ replicate n false) tail }
 
-pub length-overwritten : (bits piece : List Bool) (at : ℕ) → at + length piece ≤ length bits → length (overwritten bits at piece) ≡ length bits
+pub length-overwritten : (bits piece : List Bool) (at : ℕ) → at + length piece ≤ length bits → length (bits_overwritten bits at piece) ≡ length bits
 length-overwritten bits piece at within =
     omega (arith, length-append (take at bits ++ piece) (drop (at + length piece) bits), length-append (take at bits) piece, length-take-le at bits (omega arith), length-drop (at + length piece) bits)
 
-overwritten-append : (bits behind piece : List Bool) (at : ℕ) → at + length piece ≤ length bits → overwritten (bits ++ behind) at piece ≡ overwritten bits at piece ++ behind
+overwritten-append : (bits behind piece : List Bool) (at : ℕ) → at + length piece ≤ length bits → bits_overwritten (bits ++ behind) at piece ≡ bits_overwritten bits at piece ++ behind
 overwritten-append bits behind piece at within =
     ap₂ (λ (xs ys : List Bool). xs ++ piece ++ ys) (take-append-le at bits behind (omega arith)) (drop-append-le (at + length piece) bits behind within)
     ∙ sym (append_assoc (take at bits ++ piece) (drop (at + length piece) bits) behind)
 
 -- a piece written over some of the bits
 pub packed_overwritten : (bits piece : List Bool) (bytes new : List ℕ) (at : ℕ) → IsPacked bits bytes → at + length piece ≤ length bits →
-    bits_of new ≡ overwritten (bits_of bytes) at piece → IsPacked (overwritten bits at piece) new
+    bits_of new ≡ bits_overwritten (bits_of bytes) at piece → IsPacked (bits_overwritten bits at piece) new
 packed_overwritten bits piece bytes new at p within e =
     let n = 8 * length bytes - length bits in
-    let written : bits_of new ≡ overwritten bits at piece ++ replicate n false =
-    e ∙ ap (λ (xs : List Bool). overwritten xs at piece) p.whole ∙ overwritten-append bits (replicate n false) piece at within in
+    let written : bits_of new ≡ bits_overwritten bits at piece ++ replicate n false =
+    e ∙ ap (λ (xs : List Bool). bits_overwritten xs at piece) p.whole ∙ overwritten-append bits (replicate n false) piece at within in
     let len = length-overwritten bits piece at within in
     let room = packed_within bits bytes p in
     let size : 8 * length new ≡ 8 * length bytes =
-    omega (arith, length-bits_of new, ap length written, length-append (overwritten bits at piece) (replicate n false), length-replicate {A = Bool} n false) in
-    let tail : n ≡ 8 * length new - length (overwritten bits at piece) = omega arith in
-    record { least = omega (arith, p.least); whole = written ∙ ap (λ m. overwritten bits at piece ++ replicate m false) tail }
+    omega (arith, length-bits_of new, ap length written, length-append (bits_overwritten bits at piece) (replicate n false), length-replicate {A = Bool} n false) in
+    let tail : n ≡ 8 * length new - length (bits_overwritten bits at piece) = omega arith in
+    record { least = omega (arith, p.least); whole = written ∙ ap (λ m. bits_overwritten bits at piece ++ replicate m false) tail }

@@ -2,7 +2,7 @@
 use Rattle.std.proofs.Common.{◌≡◌, ℕ, ◌+◌, ◌-◌, ◌≤◌, List, ◌++◌, length, take, drop, Bool, refl, ap, ap₂, sym, ◌∙◌, arith, append_assoc, add_assoc, length-append, inl, inr, length-drop, length-take-le}
 use Rattle.std.proofs.lemmas.List.{append-nil, take_all, drop_all, take_at, take-append-le, take-take, drop-drop, drop-take, take-append-drop, drop-append-le}
 use Rattle.std.proofs.lemmas.Bool.{cases_lt}
-use Rattle.gor_bits.specs.Spelled.{overwritten}
+use Rattle.gor_bits.specs.Spelled.{bits_overwritten}
 use Rattle.gor_bits.proofs.ByteBits.{take_past, drop_past}
 
 -- what a word from a byte's start shows of the bits behind it
@@ -18,7 +18,7 @@ seen_piece bits zeros start skip count within word =
 
 -- a word with a piece replaced, written back where it was read
 pub replaced_piece : (bits zeros piece : List Bool) (skip : ℕ) → skip + length piece ≤ length bits → skip + length piece ≤ 64 → 64 ≤ length bits + length zeros →
-    take (length bits) (take skip (take 64 (bits ++ zeros)) ++ piece ++ drop (skip + length piece) (take 64 (bits ++ zeros)) ++ drop 64 bits) ≡ overwritten bits skip piece
+    take (length bits) (take skip (take 64 (bits ++ zeros)) ++ piece ++ drop (skip + length piece) (take 64 (bits ++ zeros)) ++ drop 64 bits) ≡ bits_overwritten bits skip piece
 replaced_piece bits zeros piece skip within word enough =
     let n = length bits in
     let j = skip + length piece in
@@ -50,7 +50,7 @@ replaced_piece bits zeros piece skip within word enough =
 
 -- a piece replaced behind the first bits is one replaced in the whole
 pub replaced_behind : (bits piece : List Bool) (start skip : ℕ) → start ≤ length bits →
-    take start bits ++ overwritten (drop start bits) skip piece ≡ overwritten bits (start + skip) piece
+    take start bits ++ bits_overwritten (drop start bits) skip piece ≡ bits_overwritten bits (start + skip) piece
 replaced_behind bits piece start skip within =
     let rest = drop start bits in
     let back : drop (skip + length piece) rest ≡ drop (start + skip + length piece) bits =
@@ -66,7 +66,7 @@ replaced_behind bits piece start skip within =
 
 -- a piece written, and another right behind it
 pub replaced_twice : (bits first second : List Bool) (at : ℕ) → at + length first + length second ≤ length bits →
-    overwritten (overwritten bits at first) (at + length first) second ≡ overwritten bits at (first ++ second)
+    bits_overwritten (bits_overwritten bits at first) (at + length first) second ≡ bits_overwritten bits at (first ++ second)
 replaced_twice bits first second at within =
     let n = at + length first in
     let head = take at bits ++ first in

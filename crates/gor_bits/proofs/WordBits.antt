@@ -7,7 +7,7 @@ use Rattle.std.proofs.lemmas.Bool.{cases_lt}
 use Rattle.std.proofs.lemmas.List.{append-nil, drop_all, length-replicate}
 use borrow.Rule.Slice.PartMut.{put_mid}
 use Rattle.std.proofs.lemmas.Bool.Decides.{nat_tests}
-use Rattle.gor_bits.specs.Spelled.{spelled, bits_of, overwritten, Stands}
+use Rattle.gor_bits.specs.Spelled.{spelled, bits_of, bits_overwritten, SpellsAt}
 use Rattle.gor_bits.proofs.Words.{word_piece, spelled-join, spelled-append, spelled-mod, length-spelled}
 use Rattle.gor_bits.proofs.ByteBits.{bits_of-append, bits_of-take, bits_of-drop, length-bits_of}
 use Rattle.gor_bits.proofs.Pieces.{seen_piece, replaced_piece, replaced_behind, replaced_twice, seen_twice}
@@ -54,7 +54,7 @@ module _ (w skip n low v above upper : ℕ) (whole : skip + n + low ≡ 64) (som
 -- what shifts of a word leave stands in the bytes that the word was read from
 pub stands_in_word : (bytes : List ℕ) (at count w : ℕ) → at + count ≤ 8 * length bytes → at % 8 + count ≤ 64 →
     spelled 64 w ≡ take 64 (bits_of (drop (at / 8) bytes) ++ replicate 64 false) →
-    Stands (bits_of bytes) at count (w * 2 ^ (at % 8) % 2 ^ 64 / 2 ^ (64 - count))
+    SpellsAt (bits_of bytes) at count (w * 2 ^ (at % 8) % 2 ^ 64 / 2 ^ (64 - count))
 stands_in_word bytes at count w within one_word e =
     let x = w * 2 ^ (at % 8) % 2 ^ 64 in
     let whole : count + (64 - count) ≡ 64 = omega arith in
@@ -73,8 +73,8 @@ stands_in_word bytes at count w within one_word e =
     }
 
 -- two numbers that stand one behind the other stand as one
-pub stands_twice : (bits : List Bool) (at first second high low : ℕ) → first + second ≤ 64 → Stands bits at first high → Stands bits (at + first) second low →
-    Stands bits at (first + second) (bit_or (high * 2 ^ second % 2 ^ 64) low)
+pub stands_twice : (bits : List Bool) (at first second high low : ℕ) → first + second ≤ 64 → SpellsAt bits at first high → SpellsAt bits (at + first) second low →
+    SpellsAt bits at (first + second) (bit_or (high * 2 ^ second % 2 ^ 64) low)
 stands_twice bits at first second high low word a b =
     let is : bit_or (high * 2 ^ second % 2 ^ 64) low ≡ high * 2 ^ second + low =
     ap (λ k. bit_or k low) (shl_whole high first second 64 a.fits word) ∙ or_shifted high second low b.fits in
@@ -91,21 +91,21 @@ stands_twice bits at first second high low word a b =
 
 -- the two parts of a number written one behind the other
 pub written_twice : (bits : List Bool) (at first second v : ℕ) → at + first + second ≤ length bits →
-    overwritten (overwritten bits at (spelled first (v / 2 ^ second))) (at + first) (spelled second (v % 2 ^ second)) ≡ overwritten bits at (spelled (first + second) v)
+    bits_overwritten (bits_overwritten bits at (spelled first (v / 2 ^ second))) (at + first) (spelled second (v % 2 ^ second)) ≡ bits_overwritten bits at (spelled (first + second) v)
 written_twice bits at first second v within =
     let a = spelled first (v / 2 ^ second) in
     let b = spelled second (v % 2 ^ second) in
     let la = length-spelled first (v / 2 ^ second) in
-    ap (λ m. overwritten (overwritten bits at a) (at + m) b) (sym la)
+    ap (λ m. bits_overwritten (bits_overwritten bits at a) (at + m) b) (sym la)
     ∙ replaced_twice bits a b at (omega (arith, la, length-spelled second (v % 2 ^ second)))
-    ∙ ap (overwritten bits at) (ap (λ (xs : List Bool). a ++ xs) (spelled-mod second v) ∙ sym (spelled-append first second v))
+    ∙ ap (bits_overwritten bits at) (ap (λ (xs : List Bool). a ++ xs) (spelled-mod second v) ∙ sym (spelled-append first second v))
 
 -- a word read from bytes, with some of its bits replaced, written back there
 pub written_in_word : (bytes rest new : List ℕ) (at count v w w' : ℕ) → rest ≡ drop (at / 8) bytes → at + count ≤ 8 * length bytes → at % 8 + count ≤ 64 →
     spelled 64 w ≡ take 64 (bits_of rest ++ replicate 64 false) →
     spelled 64 w' ≡ take (at % 8) (spelled 64 w) ++ spelled count v ++ drop (at % 8 + count) (spelled 64 w) →
     bits_of new ≡ take (8 * length rest) (spelled 64 w' ++ drop 64 (bits_of rest)) →
-    bits_of (put_mid (at / 8) (length bytes - at / 8) bytes new) ≡ overwritten (bits_of bytes) at (spelled count v)
+    bits_of (put_mid (at / 8) (length bytes - at / 8) bytes new) ≡ bits_overwritten (bits_of bytes) at (spelled count v)
 written_in_word bytes rest new at count v w w' r within one_word e1 e2 e3 =
     let k = at / 8 in
     let skip = at % 8 in
@@ -119,7 +119,7 @@ written_in_word bytes rest new at count v w w' r within one_word e1 e2 e3 =
     let place : 8 * k + skip ≡ at = omega arith in
     let word : spelled 64 w' ≡ take skip (take 64 (behind ++ zeros)) ++ piece ++ drop (skip + length piece) (take 64 (behind ++ zeros)) =
     e2 ∙ ap₂ (λ m (xs : List Bool). take skip xs ++ piece ++ drop (skip + m) xs) (sym lp) e1 in
-    let written : bits_of new ≡ overwritten behind skip piece =
+    let written : bits_of new ≡ bits_overwritten behind skip piece =
     e3
     ∙ ap₂ (λ m (xs : List Bool). take m (xs ++ drop 64 behind)) (sym lb) word
     ∙ replaced_piece behind zeros piece skip (omega (arith, lp, lb, lr)) (omega (arith, lp)) (omega (arith, length-replicate {A = Bool} 64 false)) in
@@ -127,6 +127,6 @@ written_in_word bytes rest new at count v w w' r within one_word e1 e2 e3 =
     ap (λ (xs : List ℕ). bits_of (take k bytes ++ (new ++ xs))) nothing
     ∙ ap (λ (xs : List ℕ). bits_of (take k bytes ++ xs)) (append-nil new)
     ∙ bits_of-append (take k bytes) new
-    ∙ ap₂ (λ (xs ys : List Bool). xs ++ ys) (bits_of-take k bytes) (written ∙ ap (λ (xs : List Bool). overwritten xs skip piece) (ap bits_of r ∙ bits_of-drop k bytes))
+    ∙ ap₂ (λ (xs ys : List Bool). xs ++ ys) (bits_of-take k bytes) (written ∙ ap (λ (xs : List Bool). bits_overwritten xs skip piece) (ap bits_of r ∙ bits_of-drop k bytes))
     ∙ replaced_behind bits piece (8 * k) skip (omega (arith, length-bits_of bytes))
-    ∙ ap (λ m. overwritten bits m piece) place
+    ∙ ap (λ m. bits_overwritten bits m piece) place

@@ -7,7 +7,7 @@ pub record BitString : Type 0 where
   pub spare : ℕ
 
 -- the bytes hold their first len bits and no more, and there is room for the spare ones
-pub record IsHeld (bytes : List ℕ) (capacity len spare : ℕ) : Type 0 where
+pub record HoldsBits (bytes : List ℕ) (capacity len spare : ℕ) : Type 0 where
   pub enough : len ≤ 8 * length bytes
   pub packed : IsPacked (take len (bits_of bytes)) bytes
   pub limit : len + spare ≤ 2 ^ 62

@@ -12,7 +12,7 @@ bits_of [] = []
 bits_of (byte ∷ bytes) = spelled 8 byte ++ bits_of bytes
 
 -- the count bits from place at on are those of this number
-pub record Stands (bits : List Bool) (at count value : ℕ) : Type 0 where
+pub record SpellsAt (bits : List Bool) (at count value : ℕ) : Type 0 where
   pub within : at + count ≤ length bits
   pub fits : value < 2 ^ count
   pub spelling : take count (drop at bits) ≡ spelled count value
@@ -23,5 +23,5 @@ pub record IsPacked (bits : List Bool) (bytes : List ℕ) : Type 0 where
   pub whole : bits_of bytes ≡ bits ++ replicate (8 * length bytes - length bits) false
 
 -- the bits with a piece written over those from place at on
-abbrev pub overwritten : List Bool → ℕ → List Bool → List Bool
-overwritten bits at piece = take at bits ++ piece ++ drop (at + length piece) bits
+abbrev pub bits_overwritten : List Bool → ℕ → List Bool → List Bool
+bits_overwritten bits at piece = take at bits ++ piece ++ drop (at + length piece) bits

@@ -1,7 +1,7 @@
 //! A list of bits with room for more.
 ghost use Rattle.std.specs.Prelude.{◌≡◌, ℕ, ◌+◌, ◌-◌, ◌*◌, ◌^◌, ◌<◌, ◌≤◌, ◌↔◌, ◌++◌, [], max, length, take, vec_len, IsTrue, IsOk, IfOk, IfNone, IfSome, OnOk, OnErr};
 ghost use Rattle.gor_bits.specs.BitString.{BitString};
-ghost use Rattle.gor_bits.specs.Spelled.{spelled, bits_of, overwritten, Stands, IsPacked};
+ghost use Rattle.gor_bits.specs.Spelled.{spelled, bits_of, bits_overwritten, SpellsAt, IsPacked};
 
 use crate::bytes::{cut, number_at, overwrite, push_number};
 use std::alloc::{AllocError, Global};
@@ -23,13 +23,13 @@ pub struct Bits {
 impl Model for Bits {
     ghost use Rattle.std.specs.Prelude.{take, vec_capacity};
     ghost use Rattle.gor_bits.specs.Spelled.{bits_of};
-    ghost use Rattle.gor_bits.specs.BitString.{BitString, IsHeld};
+    ghost use Rattle.gor_bits.specs.BitString.{BitString, HoldsBits};
 
     ghost Value = { BitString };
 
     ghost view = { λ b. record { bits = take b.len (bits_of b.bytes.items); spare = b.spare } };
 
-    ghost invariant = { λ b. IsHeld b.bytes.items (vec_capacity b.bytes) b.len b.spare };
+    ghost invariant = { λ b. HoldsBits b.bytes.items (vec_capacity b.bytes) b.len b.spare };
 }
 
 impl Bits {
@@ -117,7 +117,7 @@ impl Bits {
     pub fn get(&self, at: usize, n: u32) -> Option<u64>
         requires some { 1 ≤ n }
         requires word { n ≤ 64 }
-        ensures value { IfSome result (Stands self.now.bits at n) }
+        ensures value { IfSome result (SpellsAt self.now.bits at n) }
         ensures none { IfNone result (length self.now.bits < at + n) }
     {
         if at > self.len || n as usize > self.len - at {
@@ -142,7 +142,7 @@ impl Bits {
         requires some { 1 ≤ n }
         requires word { n ≤ 64 }
         requires fits { value < 2 ^ n }
-        ensures { self.new ≡ record self.old { bits = overwritten self.old.bits at (spelled n value) } }
+        ensures { self.new ≡ record self.old { bits = bits_overwritten self.old.bits at (spelled n value) } }
     {
         overwrite(&mut self.bytes, at, n, value);
     }

@@ -1,6 +1,6 @@
 //! Bits in a list of bytes, the most significant bit of each byte first.
 ghost use Rattle.std.specs.Prelude.{◌≡◌, ℕ, ◌+◌, ◌-◌, ◌*◌, ◌/◌, ◌%◌, ◌^◌, ◌<◌, ◌≤◌, ◌++◌, length, take, drop, replicate, false, vec_capacity};
-ghost use Rattle.gor_bits.specs.Spelled.{spelled, bits_of, overwritten, Stands, IsPacked};
+ghost use Rattle.gor_bits.specs.Spelled.{spelled, bits_of, bits_overwritten, SpellsAt, IsPacked};
 
 /// The first 64 bits of `bytes`, with zero bits where the bytes end.
 fn first_word(bytes: &[u8]) -> u64
@@ -40,7 +40,7 @@ fn piece(bytes: &[u8], at: usize, count: u32) -> u64
     requires within { at + count ≤ 8 * length bytes.now }
     requires one_word { at % 8 + count ≤ 64 }
     requires some { 0 < count }
-    ensures { Stands (bits_of bytes.now) at count result }
+    ensures { SpellsAt (bits_of bytes.now) at count result }
 {
     let word = first_word(&bytes[at / 8..]);
     word << (at % 8) >> (64 - count)
@@ -52,7 +52,7 @@ fn put_piece(bytes: &mut [u8], at: usize, count: u32, value: u64)
     requires one_word { at % 8 + count ≤ 64 }
     requires some { 0 < count }
     requires fits { value < 2 ^ count }
-    ensures { bits_of bytes.new ≡ overwritten (bits_of bytes.old) at (spelled count value) }
+    ensures { bits_of bytes.new ≡ bits_overwritten (bits_of bytes.old) at (spelled count value) }
 {
     let rest = &mut bytes[at / 8..];
     let word = word_with(first_word(rest), (at % 8) as u32, count, value);
@@ -65,7 +65,7 @@ pub fn number_at(bytes: &[u8], at: usize, count: u32) -> u64
     requires some { 0 < count }
     requires word { count ≤ 64 }
     requires places { at < 2 ^ 63 }
-    ensures { Stands (bits_of bytes.now) at count result }
+    ensures { SpellsAt (bits_of bytes.now) at count result }
 {
     let room = 64 - (at % 8) as u32;
     if count <= room {
@@ -83,7 +83,7 @@ pub fn put_number(bytes: &mut [u8], at: usize, count: u32, value: u64)
     requires word { count ≤ 64 }
     requires fits { value < 2 ^ count }
     requires places { at < 2 ^ 63 }
-    ensures { bits_of bytes.new ≡ overwritten (bits_of bytes.old) at (spelled count value) }
+    ensures { bits_of bytes.new ≡ bits_overwritten (bits_of bytes.old) at (spelled count value) }
 {
     let room = 64 - (at % 8) as u32;
     if count <= room {
@@ -102,7 +102,7 @@ pub fn overwrite(bytes: &mut Vec<u8>, at: usize, count: u32, value: u64)
     requires word { count ≤ 64 }
     requires fits { value < 2 ^ count }
     requires places { at < 2 ^ 63 }
-    ensures bits { bits_of bytes.new.items ≡ overwritten (bits_of bytes.old.items) at (spelled count value) }
+    ensures bits { bits_of bytes.new.items ≡ bits_overwritten (bits_of bytes.old.items) at (spelled count value) }
     ensures capacity { vec_capacity bytes.new ≡ vec_capacity bytes.old }
 {
     put_number(bytes.as_mut_slice(), at, count, value);

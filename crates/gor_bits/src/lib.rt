@@ -6,7 +6,7 @@
 //!
 //! Each call on `n` bits takes a fixed number of steps on bytes and words, and never one step a bit. The
 //! definitions that clauses cite stand in `specs/Spelled.antt`: `spelled n value` is `value` in `n` bits,
-//! `Stands bits at n value` says that these bits stand at a place, `overwritten` puts a piece over others, and
+//! `SpellsAt bits at n value` says that these bits stand at a place, `bits_overwritten` puts a piece over others, and
 //! `IsPacked` says which bytes hold a list of bits.
 #![tactic(auto)]
 

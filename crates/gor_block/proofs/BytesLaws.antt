@@ -6,8 +6,8 @@ use Rattle.std.proofs.lemmas.List.{length-reverse, reverse-reverse, take_at, app
 use Rattle.std.proofs.lemmas.Nat.{from_be_bytes-to_be_bytes_4}
 use Rattle.gor_model.specs.declared.point.Point.{Point}
 use Rattle.gor_model.specs.declared.unit.Unit.{Unit as TimeUnit}
-use Rattle.gor_model.specs.Codes.{Begins, block_bits}
-use Rattle.gor_model.specs.Fields.{IsBytes, number_in}
+use Rattle.gor_model.specs.Codes.{CodeBegins, block_bits}
+use Rattle.gor_model.specs.Fields.{IsBytes, field_in}
 use Rattle.gor_model.proofs.FieldLaws.{number_parts, wide32, IsBytes-drop}
 use Rattle.gor_bits.specs.Spelled.{bits_of, spelled, IsPacked}
 use Rattle.gor_bits.proofs.Words.{length-spelled, spelled_apart}
@@ -19,8 +19,8 @@ use Rattle.gor_values.specs.declared.fault.ValueFault.{ValueFault}
 use Rattle.gor_values.specs.declared.fault.ValueFault.TheVariants as value_fault
 use Rattle.gor_block.specs.declared.fault.BlockFault.{BlockFault}
 use Rattle.gor_block.specs.declared.fault.BlockFault.TheVariants.{Short, Window, Count, Spelling, Order, Padding, NoMemory}
-use Rattle.gor_block.specs.Marks.{PointMark, mark_of, IsNoPoint, of_time, of_word}
-use Rattle.gor_block.specs.Decoded.{decoded, IsHeld, IsWhole, IsRead}
+use Rattle.gor_block.specs.Marks.{PointMark, point_mark_of, IsNoPoint, of_time, of_word}
+use Rattle.gor_block.specs.Decoded.{decoded, IsHeld, BeginsWithPoints, PointsAreRead}
 use Rattle.gor_block.specs.PointBlock.{PointBlock, IsBlock, IsSame, IsBytesOf, code_of}
 use Rattle.gor_block.specs.Faults.{IsHeaded, IsNoCode, IsPadded, IsWrongPadding, IsWrongEnd, IsNoPadding, IsBlockFault}
 use Rattle.gor_block.proofs.Finding.{begins_self}
@@ -34,8 +34,8 @@ use Rattle.gor_block.proofs.Padding.{padded_of, padded_whole}
 
 pub record IsParts (b : PointBlock) (packed bytes : List ℕ) : Type 0 where
   pub long : 8 ≤ length bytes
-  pub window : number_in w32 0 bytes ≡ b.window
-  pub count : number_in w32 4 bytes ≡ length b.points
+  pub window : field_in w32 0 bytes ≡ b.window
+  pub count : field_in w32 4 bytes ≡ length b.points
   pub rest : drop 8 bytes ≡ packed
 
 pub few_of : (b : PointBlock) → IsBlock b → 1 ≤ length b.points → length b.points ≤ 7200000
@@ -64,17 +64,17 @@ bits_are b bytes block h =
     let size : length (bits_of (drop 8 bytes)) ≡ 8 * length h.packed = length-bits_of (drop 8 bytes) ∙ ap (λ (xs : List ℕ). 8 * length xs) p.rest in
     ap bits_of p.rest ∙ h.bits.whole ∙ ap (λ k. code_of b ++ replicate (k - length (code_of b)) false) (sym size)
 
-begins_bits : (b : PointBlock) (bytes : List ℕ) → IsBlock b → IsBytesOf b bytes → Begins (code_of b) (bits_of (drop 8 bytes))
+begins_bits : (b : PointBlock) (bytes : List ℕ) → IsBlock b → IsBytesOf b bytes → CodeBegins (code_of b) (bits_of (drop 8 bytes))
 begins_bits b bytes block h =
     let e = bits_are b bytes block h in
-    subst (λ (xs : List Bool). Begins (code_of b) xs) (sym e) (begins_self (code_of b) (replicate (length (bits_of (drop 8 bytes)) - length (code_of b)) false))
+    subst (λ (xs : List Bool). CodeBegins (code_of b) xs) (sym e) (begins_self (code_of b) (replicate (length (bits_of (drop 8 bytes)) - length (code_of b)) false))
 
 -- ---- bytes with a window and a count in their limits
 
 pub record IsRaw (u : TimeUnit) (bytes : List ℕ) (w count : ℕ) (bits : List Bool) : Type 0 where
   pub headed : IsHeaded u bytes
-  pub window : w ≡ number_in w32 0 bytes
-  pub count_is : count ≡ number_in w32 4 bytes
+  pub window : w ≡ field_in w32 0 bytes
+  pub count_is : count ≡ field_in w32 4 bytes
   pub bits_is : bits ≡ bits_of (drop 8 bytes)
 
 -- bytes of a block of a unit
@@ -94,16 +94,16 @@ raw_points u bytes w count bits b raw of =
     ∙ ap₂ (λ k (xs : List Bool). decoded b.unit b.window k xs) n raw.bits_is
     ∙ found
 
-pub raw_whole : (u : TimeUnit) (bytes : List ℕ) (w count : ℕ) (bits : List Bool) (b : PointBlock) → IsRaw u bytes w count bits → IsOf u bytes b → IsWhole u w count bits
+pub raw_whole : (u : TimeUnit) (bytes : List ℕ) (w count : ℕ) (bits : List Bool) (b : PointBlock) → IsRaw u bytes w count bits → IsOf u bytes b → BeginsWithPoints u w count bits
 raw_whole u bytes w count bits b raw of =
     let p = parts_of b bytes of.block of.spelled in
     let n : length (reverse b.points) ≡ count = length-reverse b.points ∙ sym (raw.count_is ∙ p.count) in
     let whole = whole_of b.unit b.window (reverse b.points) (bits_of (drop 8 bytes)) (chain_of_block b of.block of.spelled.some) (begins_bits b bytes of.block of.spelled) in
-    subst (λ (k : TimeUnit). IsWhole k w count bits) of.unit
-    (subst (λ (k : ℕ). IsWhole b.unit k count bits) (sym (raw.window ∙ p.window))
-    (subst (λ (k : ℕ). IsWhole b.unit b.window k bits) n (subst (λ (xs : List Bool). IsWhole b.unit b.window (length (reverse b.points)) xs) (sym raw.bits_is) whole)))
+    subst (λ (k : TimeUnit). BeginsWithPoints k w count bits) of.unit
+    (subst (λ (k : ℕ). BeginsWithPoints b.unit k count bits) (sym (raw.window ∙ p.window))
+    (subst (λ (k : ℕ). BeginsWithPoints b.unit b.window k bits) n (subst (λ (xs : List Bool). BeginsWithPoints b.unit b.window (length (reverse b.points)) xs) (sym raw.bits_is) whole)))
 
-pub raw_padded : (u : TimeUnit) (bytes : List ℕ) (w count : ℕ) (bits : List Bool) (b : PointBlock) (at : ℕ) (m : PointMark) → IsRaw u bytes w count bits → IsOf u bytes b → IsRead u w count bits at m → IsPadded bits at
+pub raw_padded : (u : TimeUnit) (bytes : List ℕ) (w count : ℕ) (bits : List Bool) (b : PointBlock) (at : ℕ) (m : PointMark) → IsRaw u bytes w count bits → IsOf u bytes b → PointsAreRead u w count bits at m → IsPadded bits at
 raw_padded u bytes w count bits b at m raw of read =
     let p = parts_of b bytes of.block of.spelled in
     let points = raw_points u bytes w count bits b raw of in
@@ -114,7 +114,7 @@ raw_padded u bytes w count bits b at m raw of read =
     subst (λ (xs : List Bool). IsPadded xs at) (sym raw.bits_is) padded
 
 -- the block that was read has these bytes
-pub raw_bytes : (u : TimeUnit) (bytes : List ℕ) (w count : ℕ) (bits : List Bool) (at : ℕ) (m : PointMark) (room : ℕ) → IsBytes bytes → IsRaw u bytes w count bits → IsRead u w count bits at m → IsPadded bits at →
+pub raw_bytes : (u : TimeUnit) (bytes : List ℕ) (w count : ℕ) (bits : List Bool) (at : ℕ) (m : PointMark) (room : ℕ) → IsBytes bytes → IsRaw u bytes w count bits → PointsAreRead u w count bits at m → IsPadded bits at →
     IsBytesOf (shown u w (decoded u w count bits) room) bytes
 raw_bytes u bytes w count bits at m room fits raw read padded =
     let points = decoded u w count bits in
@@ -137,7 +137,7 @@ raw_bytes u bytes w count bits at m room fits raw read padded =
       };
       whole =
           number_parts w32 (2 ^ 32) wide32 0 bytes (omega (arith, raw.headed.long)) fits
-          ∙ ap (λ (xs : List ℕ). to_be_bytes w32 (number_in w32 0 bytes) ++ xs) (number_parts w32 (2 ^ 32) wide32 4 bytes (omega (arith, raw.headed.long)) fits)
+          ∙ ap (λ (xs : List ℕ). to_be_bytes w32 (field_in w32 0 bytes) ++ xs) (number_parts w32 (2 ^ 32) wide32 4 bytes (omega (arith, raw.headed.long)) fits)
           ∙ ap₂ (λ k l. to_be_bytes w32 k ++ (to_be_bytes w32 l ++ packed)) (sym raw.window) (sym raw.count_is ∙ sym n);
     }
 
@@ -165,13 +165,13 @@ no_point_code m bits at f none = elim none [ inl time ↦ ap is_of_code time.is 
 
 pub code_fault : (u : TimeUnit) (bytes : List ℕ) (w count : ℕ) (bits : List Bool) (f : BlockFault) → IsRaw u bytes w count bits → IsNoCode u w count bits f → IsBlockFault u bytes f
 unfolding is_of_code
-code_fault u bytes w count bits f raw none = by_fault f here (no_point_code (mark_of u w none.points) bits _ f none.none) where
-  here : IsNoCode u (number_in w32 0 bytes) (number_in w32 4 bytes) (bits_of (drop 8 bytes)) f
+code_fault u bytes w count bits f raw none = by_fault f here (no_point_code (point_mark_of u w none.points) bits _ f none.none) where
+  here : IsNoCode u (field_in w32 0 bytes) (field_in w32 4 bytes) (bits_of (drop 8 bytes)) f
   here =
-      subst (λ (k : ℕ). IsNoCode u k (number_in w32 4 bytes) (bits_of (drop 8 bytes)) f) raw.window
+      subst (λ (k : ℕ). IsNoCode u k (field_in w32 4 bytes) (bits_of (drop 8 bytes)) f) raw.window
       (subst (λ (k : ℕ). IsNoCode u w k (bits_of (drop 8 bytes)) f) raw.count_is (subst (λ (xs : List Bool). IsNoCode u w count xs f) raw.bits_is none))
 
-  by_fault : (f : BlockFault) → IsNoCode u (number_in w32 0 bytes) (number_in w32 4 bytes) (bits_of (drop 8 bytes)) f → is_of_code f ≡ true → IsBlockFault u bytes f
+  by_fault : (f : BlockFault) → IsNoCode u (field_in w32 0 bytes) (field_in w32 4 bytes) (bits_of (drop 8 bytes)) f → is_of_code f ≡ true → IsBlockFault u bytes f
   by_fault (Short at) h e = inr (raw.headed, h)
   by_fault (Spelling at) h e = (raw.headed, h)
   by_fault (Order at) h e = (raw.headed, h)
@@ -180,11 +180,11 @@ code_fault u bytes w count bits f raw none = by_fault f here (no_point_code (mar
   by_fault (Padding at) h e = cc
   by_fault NoMemory h e = tt
 
-pub end_fault : (u : TimeUnit) (bytes : List ℕ) (w count : ℕ) (bits : List Bool) (at : ℕ) (m : PointMark) (f : BlockFault) → IsRaw u bytes w count bits → IsRead u w count bits at m → IsNoPadding bits at f → IsBlockFault u bytes f
+pub end_fault : (u : TimeUnit) (bytes : List ℕ) (w count : ℕ) (bits : List Bool) (at : ℕ) (m : PointMark) (f : BlockFault) → IsRaw u bytes w count bits → PointsAreRead u w count bits at m → IsNoPadding bits at f → IsBlockFault u bytes f
 end_fault u bytes w count bits at m (Padding place) raw read none =
     let points = decoded u w count bits in (
       raw.headed,
-      subst (λ (k : ℕ). IsWrongEnd u k (number_in w32 4 bytes) (bits_of (drop 8 bytes)) place) raw.window
+      subst (λ (k : ℕ). IsWrongEnd u k (field_in w32 4 bytes) (bits_of (drop 8 bytes)) place) raw.window
           (subst (λ (k : ℕ). IsWrongEnd u w k (bits_of (drop 8 bytes)) place) raw.count_is
           (subst (λ (xs : List Bool). IsWrongEnd u w count xs place) raw.bits_is
           (record { points = points; all = length-decoded u w count bits; chain = read.whole.chain; begins = read.whole.begins; wrong = subst (λ (k : ℕ). IsWrongPadding bits k place) read.place none }))),
@@ -231,9 +231,9 @@ raw_same u bytes w count bits found b raw of unit window points = record {
 
 pub block_one : (a b : PointBlock) (bytes : List ℕ) → IsBlock a → IsBlock b → a.unit ≡ b.unit → IsBytesOf a bytes → IsBytesOf b bytes → IsSame a b
 block_one a b bytes first second unit h k =
-    let raw : IsRaw a.unit bytes (number_in w32 0 bytes) (number_in w32 4 bytes) (bits_of (drop 8 bytes)) = record { headed = headed_of a bytes first h; window = refl; count_is = refl; bits_is = refl } in
+    let raw : IsRaw a.unit bytes (field_in w32 0 bytes) (field_in w32 4 bytes) (bits_of (drop 8 bytes)) = record { headed = headed_of a bytes first h; window = refl; count_is = refl; bits_is = refl } in
     let points = raw_points a.unit bytes _ _ _ a raw (record { block = first; unit = refl; spelled = h }) in
-    raw_same a.unit bytes (number_in w32 0 bytes) (number_in w32 4 bytes) (bits_of (drop 8 bytes)) a b raw (record { block = second; unit = sym unit; spelled = k }) refl
+    raw_same a.unit bytes (field_in w32 0 bytes) (field_in w32 4 bytes) (bits_of (drop 8 bytes)) a b raw (record { block = second; unit = sym unit; spelled = k }) refl
     (sym (parts_of a bytes first h).window) (sym (reverse-reverse a.points) ∙ ap {B = List Point} (λ (xs : List Point). reverse xs) (sym points))
 
 -- a block with these parts, whatever its room

@@ -5,16 +5,14 @@ use Rattle.std.proofs.lemmas.Bool.Decides.{nat_tests}
 use Rattle.gor_model.specs.declared.point.Point.{Point}
 use Rattle.gor_model.specs.declared.unit.Unit.{Unit as TimeUnit}
 use Rattle.gor_model.specs.Windows.{window_length}
-use Rattle.gor_model.specs.Codes.{Begins, block_bits}
-use Rattle.gor_times.specs.Times as times
-use Rattle.gor_times.specs.Times.{TimeMark, IsInside, IsNext}
+use Rattle.gor_model.specs.Codes.{CodeBegins, block_bits}
+use Rattle.gor_times.specs.Times.{TimeMark, IsInWindow, IsNext, next_time_code}
 use Rattle.gor_times.proofs.Found as time_laws
-use Rattle.gor_values.specs.Words as words
-use Rattle.gor_values.specs.Words.{ValueMark}
+use Rattle.gor_values.specs.Words.{ValueMark, next_word_code}
 use Rattle.gor_values.proofs.Found as word_laws
 use Rattle.gor_values.proofs.Found.{IsSound}
-use Rattle.gor_block.specs.Marks.{PointMark, mark_of, next_code, IsNextPoint, IsChain}
-use Rattle.gor_block.specs.Decoded.{starts_with, may_be_next, time_in, word_in, point_in, decoded, IsWhole}
+use Rattle.gor_block.specs.Marks.{PointMark, point_mark_of, next_point_code, IsNextPoint, IsChain}
+use Rattle.gor_block.specs.Decoded.{starts_with, may_be_next, time_in, word_in, point_in, decoded, BeginsWithPoints}
 use Rattle.gor_block.proofs.Finding.{passing_is, begins_append, begins_as, starts_begins, begins_starts}
 use Rattle.gor_block.proofs.MarkLaws.{IsGood, good_of}
 use Rattle.gor_block.proofs.CodeLaws.{bits_more}
@@ -40,30 +38,30 @@ may_next m t h = record {
   ends = grind (arith, nat_tests);
 }
 
-pub time_found : (m : TimeMark) (bits : List Bool) (t : ℕ) → IsInside m → IsNext m t → Begins (times.next_code m t) bits → time_in m bits ≡ t
+pub time_found : (m : TimeMark) (bits : List Bool) (t : ℕ) → IsInWindow m → IsNext m t → CodeBegins (next_time_code m t) bits → time_in m bits ≡ t
 unfolding time_in
 time_found m bits t inside next h =
-    passing_is (λ time. may_be_next m time && starts_with (times.next_code m time) bits) ((m.window + 1) * window_length m.unit) t next.ends
+    passing_is (λ time. may_be_next m time && starts_with (next_time_code m time) bits) ((m.window + 1) * window_length m.unit) t next.ends
     (both _ _ (may_true m t next) (begins_starts _ bits h))
     (λ j below passes. let q = parts _ _ passes in time_laws.next_apart m bits j t inside (may_next m j q.0) next (starts_begins _ bits q.1) h)
 
-pub word_found : (m : ValueMark) (bits : List Bool) (x : ℕ) → IsSound m → x < 2 ^ 64 → Begins (words.next_code m x) bits → word_in m bits ≡ x
+pub word_found : (m : ValueMark) (bits : List Bool) (x : ℕ) → IsSound m → x < 2 ^ 64 → CodeBegins (next_word_code m x) bits → word_in m bits ≡ x
 unfolding word_in
 word_found m bits x sound small h =
-    passing_is (λ word. starts_with (words.next_code m word) bits) (2 ^ 64) x small (begins_starts _ bits h)
+    passing_is (λ word. starts_with (next_word_code m word) bits) (2 ^ 64) x small (begins_starts _ bits h)
     (λ j below passes. word_laws.next_apart m bits j x sound below small (starts_begins _ bits passes) h)
 
-pub point_found : (m : PointMark) (bits : List Bool) (p : Point) → IsGood m → IsNextPoint m p → Begins (next_code m p) bits → point_in m bits ≡ p
+pub point_found : (m : PointMark) (bits : List Bool) (p : Point) → IsGood m → IsNextPoint m p → CodeBegins (next_point_code m p) bits → point_in m bits ≡ p
 unfolding point_in
 point_found m bits p good next h =
-    let q = begins_append (times.next_code m.times p.time) (words.next_code m.words p.word) bits h in
+    let q = begins_append (next_time_code m.times p.time) (next_word_code m.words p.word) bits h in
     let t : time_in m.times bits ≡ p.time = time_found m.times bits p.time good.inside next.time q.0 in
-    let w : word_in m.words (drop (length (times.next_code m.times p.time)) bits) ≡ p.word = word_found m.words _ p.word good.sound next.word q.1 in
-    ap {B = Point} (λ k. record { time = k; word = word_in m.words (drop (length (times.next_code m.times k)) bits) }) t
+    let w : word_in m.words (drop (length (next_time_code m.times p.time)) bits) ≡ p.word = word_found m.words _ p.word good.sound next.word q.1 in
+    ap {B = Point} (λ k. record { time = k; word = word_in m.words (drop (length (next_time_code m.times k)) bits) }) t
     ∙ ap {B = Point} (λ k. record { time = p.time; word = k }) w
 
 pub decoded_more : (u : TimeUnit) (w count : ℕ) (bits : List Bool) →
-    decoded u w (suc count) bits ≡ point_in (mark_of u w (decoded u w count bits)) (drop (length (block_bits u w (decoded u w count bits))) bits) ∷ decoded u w count bits
+    decoded u w (suc count) bits ≡ point_in (point_mark_of u w (decoded u w count bits)) (drop (length (block_bits u w (decoded u w count bits))) bits) ∷ decoded u w count bits
 unfolding decoded
 decoded_more u w count bits = refl
 
@@ -77,16 +75,16 @@ length-decoded u w zero bits = refl
 length-decoded u w (suc count) bits = ap suc (length-decoded u w count bits)
 
 -- the points whose code begins the bits are those that are found there
-pub decoded_is : (u : TimeUnit) (w : ℕ) (points : List Point) (bits : List Bool) → IsChain u w points → Begins (block_bits u w points) bits → decoded u w (length points) bits ≡ points
+pub decoded_is : (u : TimeUnit) (w : ℕ) (points : List Point) (bits : List Bool) → IsChain u w points → CodeBegins (block_bits u w points) bits → decoded u w (length points) bits ≡ points
 decoded_is u w [] bits chain h = decoded_none u w bits
 decoded_is u w (p ∷ older) bits chain h =
-    let q = begins_append (block_bits u w older) (next_code (mark_of u w older) p) bits (begins_as _ _ bits (bits_more u w p older) h) in
+    let q = begins_append (block_bits u w older) (next_point_code (point_mark_of u w older) p) bits (begins_as _ _ bits (bits_more u w p older) h) in
     let before : decoded u w (length older) bits ≡ older = decoded_is u w older bits chain.1 q.0 in
     decoded_more u w (length older) bits
-    ∙ ap {B = List Point} (λ (o : List Point). point_in (mark_of u w o) (drop (length (block_bits u w o)) bits) ∷ o) before
-    ∙ ap {B = List Point} (λ (x : Point). x ∷ older) (point_found (mark_of u w older) _ p (good_of u w older chain.1) chain.0 q.1)
+    ∙ ap {B = List Point} (λ (o : List Point). point_in (point_mark_of u w o) (drop (length (block_bits u w o)) bits) ∷ o) before
+    ∙ ap {B = List Point} (λ (x : Point). x ∷ older) (point_found (point_mark_of u w older) _ p (good_of u w older chain.1) chain.0 q.1)
 
-pub whole_of : (u : TimeUnit) (w : ℕ) (points : List Point) (bits : List Bool) → IsChain u w points → Begins (block_bits u w points) bits → IsWhole u w (length points) bits
+pub whole_of : (u : TimeUnit) (w : ℕ) (points : List Point) (bits : List Bool) → IsChain u w points → CodeBegins (block_bits u w points) bits → BeginsWithPoints u w (length points) bits
 whole_of u w points bits chain h =
     let e = sym (decoded_is u w points bits chain h) in
-    record { begins = subst (λ (o : List Point). Begins (block_bits u w o) bits) e h; chain = subst (λ (o : List Point). IsChain u w o) e chain }
+    record { begins = subst (λ (o : List Point). CodeBegins (block_bits u w o) bits) e h; chain = subst (λ (o : List Point). IsChain u w o) e chain }

@@ -4,12 +4,12 @@ use Rattle.std.specs.Int.{w32}
 use Rattle.gor_model.specs.declared.point.Point.{Point}
 use Rattle.gor_model.specs.declared.unit.Unit.{Unit as TimeUnit}
 use Rattle.gor_model.specs.Windows.{window_length, last_window}
-use Rattle.gor_model.specs.Codes.{block_bits, Begins}
-use Rattle.gor_model.specs.Fields.{number_in}
+use Rattle.gor_model.specs.Codes.{block_bits, CodeBegins}
+use Rattle.gor_model.specs.Fields.{field_in}
 use Rattle.gor_bits.specs.Spelled.{bits_of}
 use Rattle.gor_block.specs.declared.fault.BlockFault.{BlockFault}
 use Rattle.gor_block.specs.declared.fault.BlockFault.TheVariants.{Short, Window, Count, Spelling, Order, Padding, NoMemory}
-use Rattle.gor_block.specs.Marks.{IsChain, IsNoPoint, mark_of}
+use Rattle.gor_block.specs.Marks.{IsChain, IsNoPoint, point_mark_of}
 use Rattle.gor_block.specs.PointBlock.{PointBlock, IsSame}
 
 -- fewer points than the count stand in front, newest first, and no point's code behind them
@@ -17,8 +17,8 @@ pub record IsNoCode (u : TimeUnit) (w count : ℕ) (bits : List Bool) (fault : B
   pub points : List Point
   pub fewer : length points < count
   pub chain : IsChain u w points
-  pub begins : Begins (block_bits u w points) bits
-  pub none : IsNoPoint (mark_of u w points) bits (length (block_bits u w points)) fault
+  pub begins : CodeBegins (block_bits u w points) bits
+  pub none : IsNoPoint (point_mark_of u w points) bits (length (block_bits u w points)) fault
 
 -- the first set bit behind the code
 pub record IsFirstSet (bits : List Bool) (end at : ℕ) : Type 0 where
@@ -49,27 +49,27 @@ pub record IsWrongEnd (u : TimeUnit) (w count : ℕ) (bits : List Bool) (at : �
   pub points : List Point
   pub all : length points ≡ count
   pub chain : IsChain u w points
-  pub begins : Begins (block_bits u w points) bits
+  pub begins : CodeBegins (block_bits u w points) bits
   pub wrong : IsWrongPadding bits (length (block_bits u w points)) at
 
 -- the window and the count are in their limits
 pub record IsHeaded (u : TimeUnit) (bytes : List ℕ) : Type 0 where
   pub long : 8 ≤ length bytes
-  pub window : number_in w32 0 bytes ≤ last_window
-  pub some : 1 ≤ number_in w32 4 bytes
-  pub few : number_in w32 4 bytes ≤ window_length u
+  pub window : field_in w32 0 bytes ≤ last_window
+  pub some : 1 ≤ field_in w32 4 bytes
+  pub few : field_in w32 4 bytes ≤ window_length u
 
 abbrev pub IsCodeFault : TimeUnit → List ℕ → BlockFault → Type 0
-IsCodeFault u bytes fault = IsHeaded u bytes × IsNoCode u (number_in w32 0 bytes) (number_in w32 4 bytes) (bits_of (drop 8 bytes)) fault
+IsCodeFault u bytes fault = IsHeaded u bytes × IsNoCode u (field_in w32 0 bytes) (field_in w32 4 bytes) (bits_of (drop 8 bytes)) fault
 
 -- the first fault of bytes that are no block
 abbrev pub IsBlockFault : TimeUnit → List ℕ → BlockFault → Type 0
 IsBlockFault u bytes (Short at) = ((length bytes < 8) × (at ≡ 0)) ⊎ IsCodeFault u bytes (Short at)
-IsBlockFault u bytes (Window w) = (8 ≤ length bytes) × (w ≡ number_in w32 0 bytes) × (last_window < w)
-IsBlockFault u bytes (Count c) = (8 ≤ length bytes) × (number_in w32 0 bytes ≤ last_window) × (c ≡ number_in w32 4 bytes) × ((c ≡ 0) ⊎ (window_length u < c))
+IsBlockFault u bytes (Window w) = (8 ≤ length bytes) × (w ≡ field_in w32 0 bytes) × (last_window < w)
+IsBlockFault u bytes (Count c) = (8 ≤ length bytes) × (field_in w32 0 bytes ≤ last_window) × (c ≡ field_in w32 4 bytes) × ((c ≡ 0) ⊎ (window_length u < c))
 IsBlockFault u bytes (Spelling at) = IsCodeFault u bytes (Spelling at)
 IsBlockFault u bytes (Order at) = IsCodeFault u bytes (Order at)
-IsBlockFault u bytes (Padding at) = IsHeaded u bytes × IsWrongEnd u (number_in w32 0 bytes) (number_in w32 4 bytes) (bits_of (drop 8 bytes)) at
+IsBlockFault u bytes (Padding at) = IsHeaded u bytes × IsWrongEnd u (field_in w32 0 bytes) (field_in w32 4 bytes) (bits_of (drop 8 bytes)) at
 IsBlockFault u bytes NoMemory = ⊤
 
 -- this block was found, or memory was wanting

@@ -8,7 +8,7 @@ use Rattle.gor_model.specs.Windows.{window_in, last_window}
 use Rattle.gor_model.specs.PlainMap.{last_of}
 use Rattle.gor_model.specs.Codes.{block_bits, BlockCode}
 use Rattle.gor_bits.specs.Spelled.{IsPacked}
-use Rattle.gor_block.specs.Marks.{mark_of, next_code}
+use Rattle.gor_block.specs.Marks.{point_mark_of, next_point_code}
 
 pub record PointBlock : Type 0 where
   pub unit : TimeUnit
@@ -30,13 +30,13 @@ pub record IsBlock (b : PointBlock) : Type 0 where
   pub words : All (λ p. p.word < 2 ^ 64) b.points
   pub code : 1 ≤ length b.points → BlockCode b.unit b.window b.points (code_of b)
 
-abbrev pub last_time : PointBlock → Option ℕ
-last_time b = option_map (λ p. p.time) (last_of b.points)
+abbrev pub last_time_of_block : PointBlock → Option ℕ
+last_time_of_block b = option_map (λ p. p.time) (last_of b.points)
 
 -- a point may follow: its time lies in the window and is later than the last one
-pub record MayFollow (b : PointBlock) (p : Point) : Type 0 where
+pub record PointMayFollow (b : PointBlock) (p : Point) : Type 0 where
   pub inside : window_in b.unit p.time ≡ b.window
-  pub later : IfSome (last_time b) (λ last. last < p.time)
+  pub later : IfSome (last_time_of_block b) (λ last. last < p.time)
 
 -- the same points in the same unit and window; the room may differ
 pub record IsSame (a b : PointBlock) : Type 0 where
@@ -46,7 +46,7 @@ pub record IsSame (a b : PointBlock) : Type 0 where
 
 -- the block with one more point, which takes its room
 abbrev pub followed : PointBlock → Point → PointBlock
-followed b p = record { unit = b.unit; window = b.window; points = b.points ++ p ∷ []; room = b.room - length (next_code (mark_of b.unit b.window (reverse b.points)) p) }
+followed b p = record { unit = b.unit; window = b.window; points = b.points ++ p ∷ []; room = b.room - length (next_point_code (point_mark_of b.unit b.window (reverse b.points)) p) }
 
 -- ---- bytes
 

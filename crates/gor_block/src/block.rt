@@ -2,8 +2,8 @@
 ghost use Rattle.std.specs.Prelude.{◌≡◌, ℕ, ◌+◌, ◌-◌, ◌<◌, ◌≤◌, ◌++◌, [], ◌∷◌, max, length, reverse, filter, IsOk, IfOk, IfErr, OnOk, OnErr};
 ghost use Rattle.gor_model.specs.Windows.{last_window};
 ghost use Rattle.gor_model.specs.Answers.{in_range};
-ghost use Rattle.gor_block.specs.Decoded.{decoded, IsRead};
-ghost use Rattle.gor_block.specs.PointBlock.{PointBlock, IsBlock, IsSame, IsBytesOf, MayFollow, followed, last_time, point_room};
+ghost use Rattle.gor_block.specs.Decoded.{decoded, PointsAreRead};
+ghost use Rattle.gor_block.specs.PointBlock.{PointBlock, IsBlock, IsSame, IsBytesOf, PointMayFollow, followed, last_time_of_block, point_room};
 ghost use Rattle.gor_block.specs.Faults.{IsBlockFault, Finds};
 
 use crate::bytes::{Header, bits_in, bytes_of, check_padding, header_in};
@@ -66,7 +66,7 @@ impl Block {
 
     /// The last point's time, in the block's unit; None exactly where there is no point. It takes no memory.
     pub fn last(&self) -> Option<u64>
-        ensures last { result ≡ last_time self.now }
+        ensures last { result ≡ last_time_of_block self.now }
         // What is so of every block.
         ensures sound { IsBlock self.now }
     {
@@ -91,7 +91,7 @@ impl Block {
     /// bits alone.
     pub fn push_reserved(&mut self, point: Point)
         requires room { point_room ≤ self.old.room }
-        requires next { MayFollow self.old point }
+        requires next { PointMayFollow self.old point }
         ensures { self.new ≡ followed self.old point }
     {
         self.running.write(&mut self.bits, point);
@@ -100,7 +100,7 @@ impl Block {
 
     /// Adds a point behind the others. It answers `AllocError` where memory is wanting; nothing has changed then.
     pub fn push(&mut self, point: Point) -> Result<(), AllocError>
-        requires { MayFollow self.old point }
+        requires { PointMayFollow self.old point }
         ensures ok { OnOk result (self.new ≡ followed (record self.old { room = max self.old.room point_room }) point) }
         ensures room { point_room ≤ self.old.room → IsOk result }
         ensures err { OnErr result (self.new ≡ self.old) }
@@ -182,7 +182,7 @@ impl Block {
     /// The block of the bits in front of an ending.
     fn ending_at(alloc: Global, unit: Unit, header: Header, mut bits: Bits, ending: Ending) -> Block
         requires limit { header.window ≤ last_window }
-        requires read { IsRead unit header.window header.count bits.bits ending.at ending.running }
+        requires read { PointsAreRead unit header.window header.count bits.bits ending.at ending.running }
         ensures unit { result.unit ≡ unit }
         ensures window { result.window ≡ header.window }
         ensures points { result.points ≡ reverse (decoded unit header.window header.count bits.bits) }

@@ -1,7 +1,7 @@
 //! A block's bytes: its window, its count and its bits, with zero bits up to a whole byte.
 ghost use Rattle.std.specs.Prelude.{◌≡◌, ℕ, ◌+◌, ◌-◌, ◌*◌, ◌^◌, ◌<◌, ◌≤◌, ◌++◌, [], ◌∷◌, length, take, drop, replicate, false, OnOk, IsOk, IfOk, IfErr};
 ghost use Rattle.std.specs.Int.{w32, to_be_bytes};
-ghost use Rattle.gor_model.specs.Fields.{number_in};
+ghost use Rattle.gor_model.specs.Fields.{field_in};
 ghost use Rattle.gor_bits.specs.BitString.{BitString};
 ghost use Rattle.gor_bits.specs.Spelled.{bits_of};
 ghost use Rattle.gor_block.specs.Faults.{IsBlockFault, IsHeaded, IsNoPadding, IsPadded, IsPadding};
@@ -33,8 +33,8 @@ pub fn bytes_of(alloc: Global, header: Header, packed: &[u8]) -> Result<Vec<u8>,
 /// The window and the count in front of some bytes, in their limits.
 pub fn header_in(unit: Unit, bytes: &[u8]) -> Result<Header, BlockFault>
     ensures whole { IfOk result (λ header. IsHeaded unit bytes.now) }
-    ensures window { IfOk result (λ header. header.window ≡ number_in w32 0 bytes.now) }
-    ensures count { IfOk result (λ header. header.count ≡ number_in w32 4 bytes.now) }
+    ensures window { IfOk result (λ header. header.window ≡ field_in w32 0 bytes.now) }
+    ensures count { IfOk result (λ header. header.count ≡ field_in w32 4 bytes.now) }
     ensures err { IfErr result (IsBlockFault unit bytes.now) }
     ensures found { IsHeaded unit bytes.now → IsOk result }
 {

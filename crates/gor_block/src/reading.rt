@@ -1,7 +1,7 @@
 //! The points of some bits, one after another.
 ghost use Rattle.std.specs.Prelude.{◌≡◌, ℕ, ◌+◌, ◌≤◌, ◌++◌, [], ◌∷◌, reverse, filter, IsOk, IfOk, IfErr, OnOk};
 ghost use Rattle.gor_model.specs.Answers.{in_range};
-ghost use Rattle.gor_block.specs.Decoded.{decoded, IsWhole, IsRead};
+ghost use Rattle.gor_block.specs.Decoded.{decoded, BeginsWithPoints, PointsAreRead};
 ghost use Rattle.gor_block.specs.Faults.{IsNoCode};
 
 use crate::fault::BlockFault;
@@ -25,7 +25,7 @@ pub fn points_of(
     count: u32,
     bits: &Bits,
 ) -> Result<Points, AllocError>
-    requires { IsWhole unit window count bits.now.bits }
+    requires { BeginsWithPoints unit window count bits.now.bits }
     ensures { IfOk result (λ points. points ≡ reverse (decoded unit window count bits.now.bits)) }
 {
     let mut points = Points::with_room(alloc, count as usize)?;
@@ -64,7 +64,7 @@ pub fn add_between(
     to: u64,
     found: &mut Points,
 ) -> Result<(), AllocError>
-    requires { IsWhole unit window count bits.now.bits }
+    requires { BeginsWithPoints unit window count bits.now.bits }
     ensures { OnOk result (found.new ≡ found.old ++ filter (in_range from to) (reverse (decoded unit window count bits.now.bits))) }
 {
     let mut running = Running::new(unit, window);
@@ -85,9 +85,9 @@ pub fn add_between(
 
 /// Reads so many points from the front of the bits. It takes no memory.
 pub fn read_through(unit: Unit, window: u32, count: u32, bits: &Bits) -> Result<Ending, BlockFault>
-    ensures ok { IfOk result (λ ending. IsRead unit window count bits.now.bits ending.at ending.running) }
+    ensures ok { IfOk result (λ ending. PointsAreRead unit window count bits.now.bits ending.at ending.running) }
     ensures err { IfErr result (IsNoCode unit window count bits.now.bits) }
-    ensures found { IsWhole unit window count bits.now.bits → IsOk result }
+    ensures found { BeginsWithPoints unit window count bits.now.bits → IsOk result }
 {
     let mut running = Running::new(unit, window);
     let mut at = 0;

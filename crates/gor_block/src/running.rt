@@ -2,11 +2,11 @@
 ghost use Rattle.std.specs.Prelude.{◌≡◌, ℕ, ◌+◌, ◌-◌, ◌^◌, ◌<◌, ◌≤◌, ◌++◌, length, drop, true, IfOk, IfErr, IsOkAnd};
 ghost use Rattle.gor_bits.specs.BitString.{BitString};
 ghost use Rattle.gor_model.specs.declared.point.Point.{Point};
-ghost use Rattle.gor_model.specs.Codes.{Begins};
+ghost use Rattle.gor_model.specs.Codes.{CodeBegins};
 ghost use Rattle.gor_times.specs.Times as times;
 ghost use Rattle.gor_times.specs.Times.{IsNext};
 ghost use Rattle.gor_block.specs.PointBlock.{point_room};
-ghost use Rattle.gor_block.specs.Marks.{PointMark, first_mark, mark_after, next_code, IsNextPoint, IsPointAt, IsNoPoint};
+ghost use Rattle.gor_block.specs.Marks.{PointMark, first_point_mark, point_mark_after, next_point_code, IsNextPoint, IsPointAt, IsNoPoint};
 
 use crate::fault::BlockFault;
 use gor_bits::Bits;
@@ -25,14 +25,14 @@ pub struct Running {
 
 impl Model for Running {
     ghost use Rattle.std.specs.Prelude.{◌≡◌};
-    ghost use Rattle.gor_times.specs.Times.{IsInside};
+    ghost use Rattle.gor_times.specs.Times.{IsInWindow};
     ghost use Rattle.gor_block.specs.Marks.{PointMark};
 
     ghost Value = { PointMark };
 
     ghost view = { λ r. record { times = r.times; words = r.words } };
 
-    ghost invariant = { λ r. (r.last ≡ r.times.last) × IsInside r.times };
+    ghost invariant = { λ r. (r.last ≡ r.times.last) × IsInWindow r.times };
 }
 
 /// A point that was read, the place behind its codes, and what it leaves for the next one.
@@ -45,7 +45,7 @@ pub struct Step {
 
 /// The first time of a window.
 fn start_of(unit: Unit, window: u32) -> u64
-    ensures { result ≡ (first_mark unit window).times.last }
+    ensures { result ≡ (first_point_mark unit window).times.last }
 {
     window as u64 * unit.window_length()
 }
@@ -53,7 +53,7 @@ fn start_of(unit: Unit, window: u32) -> u64
 impl Running {
     /// What no points leave.
     pub fn new(unit: Unit, window: u32) -> Running
-        ensures { result ≡ first_mark unit window }
+        ensures { result ≡ first_point_mark unit window }
     {
         Running {
             times: TimeState::new(unit, window),
@@ -73,8 +73,8 @@ impl Running {
     pub fn write(&mut self, bits: &mut Bits, point: Point)
         requires room { point_room ≤ bits.old.spare }
         requires next { IsNextPoint self.old point }
-        ensures state { self.new ≡ mark_after self.old point }
-        ensures bits { bits.new ≡ record { bits = bits.old.bits ++ next_code self.old point; spare = bits.old.spare - length (next_code self.old point) } }
+        ensures state { self.new ≡ point_mark_after self.old point }
+        ensures bits { bits.new ≡ record { bits = bits.old.bits ++ next_point_code self.old point; spare = bits.old.spare - length (next_point_code self.old point) } }
     {
         self.times.write(bits, point.time);
         self.words.write(bits, point.word);
@@ -85,7 +85,7 @@ impl Running {
     pub fn read(&self, bits: &Bits, at: usize) -> Result<Step, BlockFault>
         ensures ok { IfOk result (λ step. IsPointAt self.now bits.now.bits at step.point step.next step.after) }
         ensures err { IfErr result (IsNoPoint self.now bits.now.bits at) }
-        ensures found { (p : Point) → IsNextPoint self.now p → Begins (next_code self.now p) (drop at bits.now.bits) → IsOkAnd result (λ step. step.point ≡ p) }
+        ensures found { (p : Point) → IsNextPoint self.now p → CodeBegins (next_point_code self.now p) (drop at bits.now.bits) → IsOkAnd result (λ step. step.point ≡ p) }
     {
         let (time, behind, times) = self.times.read(bits, at)?;
         let (word, next, words) = self.words.read(bits, behind)?;

@@ -5,16 +5,16 @@ use Rattle.gor_model.specs.Answers.{in_range}
 use Rattle.gor_model.specs.Names.{key_of}
 use Rattle.gor_model.specs.Shares.{SeriesShare}
 use Rattle.gor_cell.specs.declared.copied.Copied.{Copied}
-use Rattle.gor_cell.specs.Packed.{Packed, points_of}
-use Rattle.gor_cell.specs.Stands.{Stands}
+use Rattle.gor_cell.specs.Packed.{Packed, packed_points}
+use Rattle.gor_cell.specs.Stands.{CellStands}
 use Rattle.gor_cell.specs.Steps.{copied_points, IsCopyOf}
 
 -- the share that a live cell shows, in a slot; each stands for it
 abbrev pub shown : ℕ → Packed → SeriesShare
-shown slot s = record { key = key_of s.name; row = record { name = s.name; slot = slot; uid = s.uid; floor = s.floor; points = points_of s } }
+shown slot s = record { key = key_of s.name; row = record { name = s.name; slot = slot; uid = s.uid; floor = s.floor; points = packed_points s } }
 
 -- a read gives the points of the share's row
-pub copy_by_share : (live : Option Packed) (share : SeriesShare) (from to : ℕ) (c : Copied) → Stands live (Some share) → IfSome live (λ s. IsCopyOf s from to c)
+pub copy_by_share : (live : Option Packed) (share : SeriesShare) (from to : ℕ) (c : Copied) → CellStands live (Some share) → IfSome live (λ s. IsCopyOf s from to c)
     → copied_points c ≡ filter (in_range from to) share.row.points
 copy_by_share None share from to c st copy = absurd st
 copy_by_share (Some s) share from to c st copy = copy.points ∙ ap (filter (in_range from to)) (sym st.points)

@@ -8,9 +8,9 @@ use Rattle.gor_model.specs.PlainMap.{last_of}
 use Rattle.gor_model.specs.Windows.{window, window_in, store_unit}
 use Rattle.gor_model.proofs.Lists.{filter_all, filter_none, all_places, all_weaker, all_joined}
 use Rattle.gor_block.specs.PointBlock.{PointBlock, IsBlock}
-use Rattle.gor_cell.specs.Packed.{Packed, IsPacked, IsLater, AreSealed, blocks_of, points_in, standing}
+use Rattle.gor_cell.specs.Packed.{Packed, IsPackedCell, IsLater, AreSealed, blocks_of, points_of_blocks, standing}
 use Rattle.gor_cell.specs.Steps.{in_windows}
-use Rattle.gor_cell.specs.Blocks.{bare, is_chosen, chosen, has_point}
+use Rattle.gor_cell.specs.Blocks.{bare_block, is_chosen, chosen, has_point}
 
 -- ---- filters
 
@@ -43,7 +43,7 @@ right_sealed floor w [] a = tt
 right_sealed floor w (None ∷ places) a = right_sealed floor (w + 1) places a
 right_sealed floor w (Some b ∷ places) a = (record { unit = a.0.unit; block = a.0.block }, right_sealed floor (w + 1) places a.1)
 
-pub right_cell : (s : Packed) → IsPacked s → AllByRecursion IsRight (blocks_of s)
+pub right_cell : (s : Packed) → IsPackedCell s → AllByRecursion IsRight (blocks_of s)
 right_cell s p = all_joined IsRight (standing s.sealed.items) s.later
     (right_sealed s.floor s.sealed.first s.sealed.items p.sealed)
     (all_weaker (IsLater s.floor) IsRight s.later (λ b l. record { unit = l.unit; block = l.block }) p.later)
@@ -64,17 +64,17 @@ inside b r = by b.points refl
 pub record Agrees (tp : Point → Bool) (tb : PointBlock → Bool) (b : PointBlock) : Type 0 where
   pub is : filter tp b.points ≡ (if tb b then b.points else [])
 
-pub points_filter : (tp : Point → Bool) (tb : PointBlock → Bool) (blocks : List PointBlock) → AllByRecursion (Agrees tp tb) blocks → points_in (filter tb blocks) ≡ filter tp (points_in blocks)
+pub points_filter : (tp : Point → Bool) (tb : PointBlock → Bool) (blocks : List PointBlock) → AllByRecursion (Agrees tp tb) blocks → points_of_blocks (filter tb blocks) ≡ filter tp (points_of_blocks blocks)
 points_filter tp tb [] a = refl
 points_filter tp tb (b ∷ blocks) a = by (points_filter tp tb blocks a.1) (tb b) refl
   where
-    by : points_in (filter tb blocks) ≡ filter tp (points_in blocks) → (t : Bool) → tb b ≡ t → points_in (filter tb (b ∷ blocks)) ≡ filter tp (b.points ++ points_in blocks)
+    by : points_of_blocks (filter tb blocks) ≡ filter tp (points_of_blocks blocks) → (t : Bool) → tb b ≡ t → points_of_blocks (filter tb (b ∷ blocks)) ≡ filter tp (b.points ++ points_of_blocks blocks)
     by rest true e =
         let here : filter tp b.points ≡ b.points = a.0.is ∙ ap (λ t. if t then b.points else []) e in
-        rw e (ap₂ (λ k l. k ++ l) (sym here) rest ∙ sym (filter-append tp b.points (points_in blocks)))
+        rw e (ap₂ (λ k l. k ++ l) (sym here) rest ∙ sym (filter-append tp b.points (points_of_blocks blocks)))
     by rest false e =
         let here : filter tp b.points ≡ [] = a.0.is ∙ ap (λ t. if t then b.points else []) e in
-        rw e (rest ∙ (ap (λ l. l ++ filter tp (points_in blocks)) (sym here) ∙ sym (filter-append tp b.points (points_in blocks))))
+        rw e (rest ∙ (ap (λ l. l ++ filter tp (points_of_blocks blocks)) (sym here) ∙ sym (filter-append tp b.points (points_of_blocks blocks))))
 
 -- a test of points by their window is one of blocks
 pub agrees_by : (test : ℕ → Bool) (tp : Point → Bool) (b : PointBlock) → IsRight b → ((p : Point) → window p.time ≡ b.window → tp p ≡ test b.window) → Agrees tp (λ x. test x.window) b
@@ -104,26 +104,26 @@ agrees_chosen first last b r = record { is = by (nat_le first b.window && nat_le
     by true false e f = plain ∙ (ap (λ x. if x then b.points else []) e ∙ (empty b.points f ∙ sym (ap₂ (λ m n. if m && n then b.points else []) e f)))
     by false u e f = plain ∙ (ap (λ x. if x then b.points else []) e ∙ sym (ap (λ m. if m && has_point b then b.points else []) e))
 
-pub points_chosen : (first last : ℕ) (blocks : List PointBlock) → AllByRecursion IsRight blocks → points_in (chosen first last blocks) ≡ filter (in_windows first last) (points_in blocks)
+pub points_chosen : (first last : ℕ) (blocks : List PointBlock) → AllByRecursion IsRight blocks → points_of_blocks (chosen first last blocks) ≡ filter (in_windows first last) (points_of_blocks blocks)
 points_chosen first last blocks r = points_filter (in_windows first last) (is_chosen first last) blocks (all_weaker IsRight (Agrees (in_windows first last) (is_chosen first last)) blocks (agrees_chosen first last) r)
 
 -- ---- without their room
 
-pub points_bare : (xs : List PointBlock) → points_in (map bare xs) ≡ points_in xs
+pub points_bare : (xs : List PointBlock) → points_of_blocks (map bare_block xs) ≡ points_of_blocks xs
 points_bare [] = refl
 points_bare (x ∷ xs) = ap (λ ps. x.points ++ ps) (points_bare xs)
 
-to_bare : (P : PointBlock → Type 0) → ((b : PointBlock) → P b → P (bare b)) → (xs : List PointBlock) → AllByRecursion P xs → AllByRecursion P (map bare xs)
+to_bare : (P : PointBlock → Type 0) → ((b : PointBlock) → P b → P (bare_block b)) → (xs : List PointBlock) → AllByRecursion P xs → AllByRecursion P (map bare_block xs)
 to_bare P f [] a = tt
 to_bare P f (x ∷ xs) a = (f x a.0, to_bare P f xs a.1)
 
-of_bare : (P : PointBlock → Type 0) → ((b : PointBlock) → P (bare b) → P b) → (xs : List PointBlock) → AllByRecursion P (map bare xs) → AllByRecursion P xs
+of_bare : (P : PointBlock → Type 0) → ((b : PointBlock) → P (bare_block b) → P b) → (xs : List PointBlock) → AllByRecursion P (map bare_block xs) → AllByRecursion P xs
 of_bare P f [] a = tt
 of_bare P f (x ∷ xs) a = (f x a.0, of_bare P f xs a.1)
 
 -- what is so of some blocks is so of their copies
-pub each_copy : (P : PointBlock → Type 0) → ((b : PointBlock) → P b → P (bare b)) → ((b : PointBlock) → P (bare b) → P b) → (xs ys : List PointBlock) → map bare xs ≡ map bare ys → AllByRecursion P ys → AllByRecursion P xs
+pub each_copy : (P : PointBlock → Type 0) → ((b : PointBlock) → P b → P (bare_block b)) → ((b : PointBlock) → P (bare_block b) → P b) → (xs ys : List PointBlock) → map bare_block xs ≡ map bare_block ys → AllByRecursion P ys → AllByRecursion P xs
 each_copy P f g xs ys e a = of_bare P g xs (subst (AllByRecursion P) (sym e) (to_bare P f ys a))
 
-pub points_copy : (xs ys : List PointBlock) → map bare xs ≡ map bare ys → points_in xs ≡ points_in ys
-points_copy xs ys e = sym (points_bare xs) ∙ (ap points_in e ∙ points_bare ys)
+pub points_copy : (xs ys : List PointBlock) → map bare_block xs ≡ map bare_block ys → points_of_blocks xs ≡ points_of_blocks ys
+points_copy xs ys e = sym (points_bare xs) ∙ (ap points_of_blocks e ∙ points_bare ys)

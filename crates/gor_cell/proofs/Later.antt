@@ -9,7 +9,7 @@ use Rattle.gor_model.specs.Windows.{window, store_unit, window_in, last_window}
 use Rattle.gor_model.proofs.Lists.{last_push, all_places, all_last, all_front, all_joined}
 use Rattle.gor_block.specs.PointBlock.{PointBlock, IsBlock, point_room}
 use Rattle.std.proofs.lemmas.Bool.{eqb-false, eqb-true}
-use Rattle.gor_cell.specs.Packed.{points_in, last_time, Rising, IsLater}
+use Rattle.gor_cell.specs.Packed.{points_of_blocks, last_time_of_points, Rising, IsLater}
 use Rattle.gor_cell.specs.Steps.{IsOpen}
 use Rattle.gor_cell.specs.Blocks.{with_last, roomy, Trimmed, AreLater, MayCome, lacks_points, lies_in}
 use Rattle.gor_cell.proofs.Points.{points_both, last_point, points_with_last, each_with_last, rising_with_last, last_with_last}
@@ -46,7 +46,7 @@ pub trim_one : (old xs : List PointBlock) (b : PointBlock) → b.points ≡ [] �
 trim_one old xs b e t = record {
   back = b ∷ t.back;
   all = t.all ∙ append_assoc xs (b ∷ []) t.back;
-  none = ap (λ ps. ps ++ points_in t.back) e ∙ t.none;
+  none = ap (λ ps. ps ++ points_of_blocks t.back) e ∙ t.none;
 }
 
 pub trim_pop : (old xs ys : List PointBlock) (o : Option PointBlock) → Trimmed old xs → xs ≡ ys ++ option_to_list o → lacks_points (last_of xs) ≡ true → Trimmed old ys
@@ -59,8 +59,8 @@ trim_pop old xs ys (Some b) t e lacks =
     no_points [] h = refl
     no_points (p ∷ ps) h = cc
 
-pub trim_points : (old new : List PointBlock) → Trimmed old new → points_in new ≡ points_in old
-trim_points old new t = sym (ap points_in t.all ∙ (points_both new t.back ∙ (ap (λ ps. points_in new ++ ps) t.none ∙ append-nil (points_in new))))
+pub trim_points : (old new : List PointBlock) → Trimmed old new → points_of_blocks new ≡ points_of_blocks old
+trim_points old new t = sym (ap points_of_blocks t.all ∙ (points_both new t.back ∙ (ap (λ ps. points_of_blocks new ++ ps) t.none ∙ append-nil (points_of_blocks new))))
 
 pub trim_later : (floor : ℕ) (old new : List PointBlock) → Trimmed old new → AreLater floor old → AreLater floor new
 trim_later floor old new t a =
@@ -112,7 +112,7 @@ before_window floor time w xs full lies e come all = by (last_of xs) refl
     full_last b (Some p) h at =
         let is = all_last (IsLater floor) xs all b at in
         let win : window p.time ≡ b.window = window_of_last b p is.block is.unit h in
-        let time_of : last_time (points_in xs) ≡ Some p.time = ap (option_map (λ (q : Point). q.time)) (last_point xs b at (some b.points h) ∙ h) in
+        let time_of : last_time_of_points (points_of_blocks xs) ≡ Some p.time = ap (option_map (λ (q : Point). q.time)) (last_point xs b at (some b.points h) ∙ h) in
         let behind : p.time < time = subst (λ o. IfSome o (λ last. last < time)) time_of come.behind in
         let apart : b.window ≢ w = eqb-false b.window w (sym (ap (lies_in w) at) ∙ lies) in
         omega arith
@@ -137,7 +137,7 @@ later_added floor time w xs full lies e limit come a = record {
 pub come_trimmed : (floor time : ℕ) (old new : List PointBlock) → Trimmed old new → MayCome floor time old → MayCome floor time new
 come_trimmed floor time old new t come = record {
   reached = come.reached;
-  behind = subst (λ ps. IfSome (last_time ps) (λ last. last < time)) (sym (trim_points old new t)) come.behind;
+  behind = subst (λ ps. IfSome (last_time_of_points ps) (λ last. last < time)) (sym (trim_points old new t)) come.behind;
 }
 
 -- ---- the whole call
@@ -146,8 +146,8 @@ pub opened_later : (time w : ℕ) (old mid : List PointBlock) → Trimmed old mi
     → (floor : ℕ) → MayCome floor time old → AreLater floor old → AreLater floor (mid ++ fresh w ∷ [])
 opened_later time w old mid t full lies e limit floor come a = later_added floor time w mid full lies e limit (come_trimmed floor time old mid t come) (trim_later floor old mid t a)
 
-pub opened_points : (old mid : List PointBlock) (w : ℕ) → Trimmed old mid → points_in (mid ++ fresh w ∷ []) ≡ points_in old
-opened_points old mid w t = points_both mid (fresh w ∷ []) ∙ (append-nil (points_in mid) ∙ trim_points old mid t)
+pub opened_points : (old mid : List PointBlock) (w : ℕ) → Trimmed old mid → points_of_blocks (mid ++ fresh w ∷ []) ≡ points_of_blocks old
+opened_points old mid w t = points_both mid (fresh w ∷ []) ∙ (append-nil (points_of_blocks mid) ∙ trim_points old mid t)
 
-pub reserved_points : (old mid : List PointBlock) → Trimmed old mid → points_in (with_last roomy mid) ≡ points_in old
+pub reserved_points : (old mid : List PointBlock) → Trimmed old mid → points_of_blocks (with_last roomy mid) ≡ points_of_blocks old
 reserved_points old mid t = points_with_last roomy (λ b. refl) mid ∙ trim_points old mid t

@@ -9,7 +9,7 @@ use Rattle.gor_model.specs.declared.point.Point.{Point}
 use Rattle.gor_model.specs.Windows.{kept, is_kept, per, store_unit}
 use Rattle.gor_model.specs.Answers.{in_range}
 use Rattle.gor_block.specs.PointBlock.{PointBlock}
-use Rattle.gor_cell.specs.Packed.{points_in}
+use Rattle.gor_cell.specs.Packed.{points_of_blocks}
 use Rattle.gor_cell.proofs.Filters.{filter_twice}
 
 pick_both : (from to floor : ℕ) (ps qs : List Point) → filter (in_range from to) (kept floor (ps ++ qs)) ≡ filter (in_range from to) (kept floor ps) ++ filter (in_range from to) (kept floor qs)
@@ -17,19 +17,19 @@ pick_both from to floor ps qs = ap (filter (in_range from to)) (filter-append (i
 
 -- what was found and what is left to find are all
 pub record Picking (from to floor : ℕ) (all rest : List PointBlock) (found : List Point) : Type 0 where
-  pub are : found ++ filter (in_range from to) (kept floor (points_in rest)) ≡ filter (in_range from to) (kept floor (points_in all))
+  pub are : found ++ filter (in_range from to) (kept floor (points_of_blocks rest)) ≡ filter (in_range from to) (kept floor (points_of_blocks all))
 
 pub picking_first : (from to floor : ℕ) (all : List PointBlock) → Picking from to floor all all []
 picking_first from to floor all = record { are = refl }
 
 pub picking_next : (from to floor : ℕ) (all rest : List PointBlock) (b : PointBlock) (found new : List Point) → Picking from to floor all (b ∷ rest) found → new ≡ found ++ filter (in_range from to) (kept floor b.points) → Picking from to floor all rest new
 picking_next from to floor all rest b found new p e = record {
-  are = ap (λ l. l ++ filter (in_range from to) (kept floor (points_in rest))) e
-      ∙ (append_assoc found (filter (in_range from to) (kept floor b.points)) (filter (in_range from to) (kept floor (points_in rest)))
-      ∙ (ap (λ l. found ++ l) (sym (pick_both from to floor b.points (points_in rest))) ∙ p.are));
+  are = ap (λ l. l ++ filter (in_range from to) (kept floor (points_of_blocks rest))) e
+      ∙ (append_assoc found (filter (in_range from to) (kept floor b.points)) (filter (in_range from to) (kept floor (points_of_blocks rest)))
+      ∙ (ap (λ l. found ++ l) (sym (pick_both from to floor b.points (points_of_blocks rest))) ∙ p.are));
 }
 
-pub picking_last : (from to floor : ℕ) (all : List PointBlock) (found : List Point) → Picking from to floor all [] found → found ≡ filter (in_range from to) (kept floor (points_in all))
+pub picking_last : (from to floor : ℕ) (all : List PointBlock) (found : List Point) → Picking from to floor all [] found → found ≡ filter (in_range from to) (kept floor (points_of_blocks all))
 picking_last from to floor all found p = sym (append-nil found) ∙ p.are
 
 -- ---- a range that begins no earlier than a day behind the floor

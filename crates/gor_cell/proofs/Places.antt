@@ -8,7 +8,7 @@ use Rattle.gor_model.specs.Windows.{window_length, store_unit, per}
 use Rattle.gor_model.proofs.Lists.{all_weaker, all_joined, filter_all}
 use Rattle.gor_block.specs.PointBlock.{PointBlock}
 use Rattle.gor_ring.specs.Places.{Places, with_item, shifted, advanced}
-use Rattle.gor_cell.specs.Packed.{IsSealed, AreSealed, Rising, standing}
+use Rattle.gor_cell.specs.Packed.{IsSealedBlock, AreSealed, Rising, standing}
 use Rattle.gor_cell.specs.Blocks.{with_blocks}
 use Rattle.gor_cell.proofs.Points.{standing_both}
 use Rattle.gor_cell.proofs.Rises.{rising_each, rising_standing}
@@ -100,13 +100,13 @@ advanced_twelve first ring twelve = simp length-append (simp (length-drop, lengt
 
 -- ---- a block put
 
-sealed_set : (floor w n : ℕ) (places : List (Option PointBlock)) (b : PointBlock) → AreSealed floor w places → IsSealed floor (w + n) b → AreSealed floor w (slice_set places n (Some b))
+sealed_set : (floor w n : ℕ) (places : List (Option PointBlock)) (b : PointBlock) → AreSealed floor w places → IsSealedBlock floor (w + n) b → AreSealed floor w (slice_set places n (Some b))
 sealed_set floor w zero [] b a is = tt
 sealed_set floor w (suc n) [] b a is = tt
-sealed_set floor w zero (None ∷ places) b a is = let e : w + 0 ≡ w = omega arith in (subst (λ v. IsSealed floor v b) e is, a)
-sealed_set floor w zero (Some c ∷ places) b a is = let e : w + 0 ≡ w = omega arith in (subst (λ v. IsSealed floor v b) e is, a.1)
-sealed_set floor w (suc n) (None ∷ places) b a is = let e : w + suc n ≡ w + 1 + n = omega arith in sealed_set floor (w + 1) n places b a (subst (λ v. IsSealed floor v b) e is)
-sealed_set floor w (suc n) (Some c ∷ places) b a is = let e : w + suc n ≡ w + 1 + n = omega arith in (a.0, sealed_set floor (w + 1) n places b a.1 (subst (λ v. IsSealed floor v b) e is))
+sealed_set floor w zero (None ∷ places) b a is = let e : w + 0 ≡ w = omega arith in (subst (λ v. IsSealedBlock floor v b) e is, a)
+sealed_set floor w zero (Some c ∷ places) b a is = let e : w + 0 ≡ w = omega arith in (subst (λ v. IsSealedBlock floor v b) e is, a.1)
+sealed_set floor w (suc n) (None ∷ places) b a is = let e : w + suc n ≡ w + 1 + n = omega arith in sealed_set floor (w + 1) n places b a (subst (λ v. IsSealedBlock floor v b) e is)
+sealed_set floor w (suc n) (Some c ∷ places) b a is = let e : w + suc n ≡ w + 1 + n = omega arith in (a.0, sealed_set floor (w + 1) n places b a.1 (subst (λ v. IsSealedBlock floor v b) e is))
 
 none_between : (low high : ℕ) (xs : List PointBlock) → high ≤ low → AllByRecursion (λ b. low ≤ b.window) xs → AllByRecursion (λ b. b.window < high) xs → xs ≡ []
 none_between low high [] h over under = refl
@@ -137,7 +137,7 @@ pub record Takes (floor low : ℕ) (front : List PointBlock) (ring : Places Poin
   pub below : AllByRecursion (λ c. c.window < low) (standing ring.items)
   pub rising : Rising low front
   pub fits : AllByRecursion (λ b. b.window < ring.first + 12) front
-  pub seals : AllByRecursion (λ b. ring.first ≤ b.window → IsSealed floor b.window b) front
+  pub seals : AllByRecursion (λ b. ring.first ≤ b.window → IsSealedBlock floor b.window b) front
 
 -- what such a ring has behind them
 pub record Filled (floor : ℕ) (front : List PointBlock) (ring new : Places PointBlock) : Type 0 where
@@ -151,7 +151,7 @@ below_next low b xs h all = all_weaker (λ (c : PointBlock). c.window < low) (λ
 taken : (floor low : ℕ) (b : PointBlock) (front : List PointBlock) (ring : Places PointBlock) → Takes floor low (b ∷ front) ring → ring.first ≤ b.window → Takes floor (b.window + 1) front (with_item b.window b ring)
 taken floor low b front ring t h = record {
   twelve = length-set ring.items n (Some b) ∙ t.twelve;
-  sealed = sealed_set floor ring.first n ring.items b t.sealed (subst (λ v. IsSealed floor v b) (sym e) (t.seals.0 h));
+  sealed = sealed_set floor ring.first n ring.items b t.sealed (subst (λ v. IsSealedBlock floor v b) (sym e) (t.seals.0 h));
   below = subst (AllByRecursion (λ (c : PointBlock). c.window < b.window + 1)) (sym (standing_set floor ring.first n ring.items b t.sealed under within))
       (all_joined (λ (c : PointBlock). c.window < b.window + 1) (standing ring.items) (b ∷ []) (below_next low b (standing ring.items) t.rising.0 t.below) (omega arith, tt));
   rising = t.rising.1;

@@ -10,7 +10,7 @@ use Rattle.gor_model.specs.Answers.{in_range}
 use Rattle.gor_model.proofs.Lists.{all_of, all_weaker, all_joined, filter_all, all_filter}
 use Rattle.gor_block.specs.PointBlock.{PointBlock}
 use Rattle.gor_cell.specs.declared.copied.Copied.{Copied}
-use Rattle.gor_cell.specs.Packed.{Packed, IsPacked, IsLater, IsSealed, AreSealed, blocks_of, points_of, points_in, standing}
+use Rattle.gor_cell.specs.Packed.{Packed, IsPackedCell, IsLater, IsSealedBlock, AreSealed, blocks_of, packed_points, points_of_blocks, standing}
 use Rattle.gor_cell.specs.Steps.{in_windows, IsCopyOf}
 use Rattle.gor_cell.specs.Blocks.{is_chosen, chosen, has_point, AddsCopies}
 use Rattle.gor_cell.proofs.Points.{points_both}
@@ -18,26 +18,26 @@ use Rattle.gor_cell.proofs.Filters.{filter_passes, filter_twice, right_cell, ins
 
 -- ---- every point is kept
 
-kept_sealed : (floor w : ℕ) (b : PointBlock) → IsSealed floor w b → AllByRecursion (λ p. is_kept floor p ≡ true) b.points
+kept_sealed : (floor w : ℕ) (b : PointBlock) → IsSealedBlock floor w b → AllByRecursion (λ p. is_kept floor p ≡ true) b.points
 kept_sealed floor w b s = all_weaker (λ p. window p.time ≡ b.window) (λ p. is_kept floor p ≡ true) b.points one (inside b (record { unit = s.unit; block = s.block }))
   where
     one : (p : Point) → window p.time ≡ b.window → is_kept floor p ≡ true
     one p e = let kept_at = s.kept in le-leb floor (p.time + 86400 * per store_unit) (omega arith)
 
-kept_standing : (floor w : ℕ) (places : List (Option PointBlock)) → AreSealed floor w places → AllByRecursion (λ p. is_kept floor p ≡ true) (points_in (standing places))
+kept_standing : (floor w : ℕ) (places : List (Option PointBlock)) → AreSealed floor w places → AllByRecursion (λ p. is_kept floor p ≡ true) (points_of_blocks (standing places))
 kept_standing floor w [] a = tt
 kept_standing floor w (None ∷ places) a = kept_standing floor (w + 1) places a
-kept_standing floor w (Some b ∷ places) a = all_joined (λ p. is_kept floor p ≡ true) b.points (points_in (standing places)) (kept_sealed floor w b a.0) (kept_standing floor (w + 1) places a.1)
+kept_standing floor w (Some b ∷ places) a = all_joined (λ p. is_kept floor p ≡ true) b.points (points_of_blocks (standing places)) (kept_sealed floor w b a.0) (kept_standing floor (w + 1) places a.1)
 
-kept_later : (floor : ℕ) (later : List PointBlock) → AllByRecursion (IsLater floor) later → AllByRecursion (λ p. is_kept floor p ≡ true) (points_in later)
+kept_later : (floor : ℕ) (later : List PointBlock) → AllByRecursion (IsLater floor) later → AllByRecursion (λ p. is_kept floor p ≡ true) (points_of_blocks later)
 kept_later floor [] a = tt
-kept_later floor (b ∷ later) a = all_joined (λ p. is_kept floor p ≡ true) b.points (points_in later)
+kept_later floor (b ∷ later) a = all_joined (λ p. is_kept floor p ≡ true) b.points (points_of_blocks later)
     (all_weaker (λ (p : Point). floor ≤ p.time) (λ p. is_kept floor p ≡ true) b.points (λ p low. le-leb floor (p.time + 86400 * per store_unit) (omega arith)) a.0.reached)
     (kept_later floor later a.1)
 
-pub all_kept : (s : Packed) → IsPacked s → AllByRecursion (λ p. is_kept s.floor p ≡ true) (points_of s)
+pub all_kept : (s : Packed) → IsPackedCell s → AllByRecursion (λ p. is_kept s.floor p ≡ true) (packed_points s)
 all_kept s p = subst (AllByRecursion (λ q. is_kept s.floor q ≡ true)) (sym (points_both (standing s.sealed.items) s.later))
-    (all_joined (λ q. is_kept s.floor q ≡ true) (points_in (standing s.sealed.items)) (points_in s.later) (kept_standing s.floor s.sealed.first s.sealed.items p.sealed) (kept_later s.floor s.later p.later))
+    (all_joined (λ q. is_kept s.floor q ≡ true) (points_of_blocks (standing s.sealed.items)) (points_of_blocks s.later) (kept_standing s.floor s.sealed.first s.sealed.items p.sealed) (kept_later s.floor s.later p.later))
 
 -- ---- a range
 
@@ -78,25 +78,25 @@ chosen_parts first last b e = by (nat_le first b.window) (nat_le b.window last) 
 pub chosen_windows : (first last : ℕ) (blocks : List PointBlock) → AllByRecursion (λ b. (first ≤ b.window) × (b.window ≤ last)) (chosen first last blocks)
 chosen_windows first last blocks = all_weaker (λ b. is_chosen first last b ≡ true) (λ b. (first ≤ b.window) × (b.window ≤ last)) (chosen first last blocks) (λ b e. let parts = chosen_parts first last b e in (parts.0, parts.1)) (filter_passes (is_chosen first last) blocks)
 
-pub copy_is : (s : Packed) (from to : ℕ) (c : Copied) → IsPacked s → c.floor ≡ s.floor → c.from ≡ from → c.to ≡ to → AddsCopies (chosen (window from) (window to) (blocks_of s)) [] c.blocks.items → IsCopyOf s from to c
+pub copy_is : (s : Packed) (from to : ℕ) (c : Copied) → IsPackedCell s → c.floor ≡ s.floor → c.from ≡ from → c.to ≡ to → AddsCopies (chosen (window from) (window to) (blocks_of s)) [] c.blocks.items → IsCopyOf s from to c
 copy_is s from to c p floor first last copies = record {
   floor = floor;
   first = first;
   last = last;
   meets = each_copy (λ b. (window from ≤ b.window) × (b.window ≤ window to)) (λ b h. h) (λ b h. h) c.blocks.items taken copies (chosen_windows (window from) (window to) (blocks_of s));
-  points = ap₂ (λ f t. filter (in_range f t) (kept c.floor (points_in c.blocks.items))) first last ∙ (ap (filter (in_range from to)) kept_all ∙ (ap (filter (in_range from to)) points ∙ twice));
+  points = ap₂ (λ f t. filter (in_range f t) (kept c.floor (points_of_blocks c.blocks.items))) first last ∙ (ap (filter (in_range from to)) kept_all ∙ (ap (filter (in_range from to)) points ∙ twice));
 }
   where
     taken : List PointBlock
     taken = chosen (window from) (window to) (blocks_of s)
 
-    points : points_in c.blocks.items ≡ filter (in_windows (window from) (window to)) (points_of s)
+    points : points_of_blocks c.blocks.items ≡ filter (in_windows (window from) (window to)) (packed_points s)
     points = points_copy c.blocks.items taken copies ∙ points_chosen (window from) (window to) (blocks_of s) (right_cell s p)
 
-    twice : filter (in_range from to) (filter (in_windows (window from) (window to)) (points_of s)) ≡ filter (in_range from to) (points_of s)
-    twice = filter_twice (in_range from to) (in_windows (window from) (window to)) (in_range from to) (points_of s) (all_of (λ q. (in_windows (window from) (window to) q && in_range from to q) ≡ in_range from to q) (points_of s) (within from to))
+    twice : filter (in_range from to) (filter (in_windows (window from) (window to)) (packed_points s)) ≡ filter (in_range from to) (packed_points s)
+    twice = filter_twice (in_range from to) (in_windows (window from) (window to)) (in_range from to) (packed_points s) (all_of (λ q. (in_windows (window from) (window to) q && in_range from to q) ≡ in_range from to q) (packed_points s) (within from to))
 
-    kept_all : kept c.floor (points_in c.blocks.items) ≡ points_in c.blocks.items
-    kept_all = filter_all (is_kept c.floor) (points_in c.blocks.items)
-        (subst (λ f. AllByRecursion (λ q. is_kept f q ≡ true) (points_in c.blocks.items)) (sym floor)
-        (subst (AllByRecursion (λ q. is_kept s.floor q ≡ true)) (sym points) (all_filter (λ q. is_kept s.floor q ≡ true) (in_windows (window from) (window to)) (points_of s) (all_kept s p))))
+    kept_all : kept c.floor (points_of_blocks c.blocks.items) ≡ points_of_blocks c.blocks.items
+    kept_all = filter_all (is_kept c.floor) (points_of_blocks c.blocks.items)
+        (subst (λ f. AllByRecursion (λ q. is_kept f q ≡ true) (points_of_blocks c.blocks.items)) (sym floor)
+        (subst (AllByRecursion (λ q. is_kept s.floor q ≡ true)) (sym points) (all_filter (λ q. is_kept s.floor q ≡ true) (in_windows (window from) (window to)) (packed_points s) (all_kept s p))))

@@ -5,8 +5,8 @@ use Rattle.std.specs.Prelude.{filter, nat_le, if◌then◌else◌}
 use Rattle.std.specs.List.{AllByRecursion}
 use Rattle.gor_model.specs.Windows.{window}
 use Rattle.gor_block.specs.PointBlock.{PointBlock}
-use Rattle.gor_cell.specs.Packed.{Packed, IsPacked, AreSealed, Rising, blocks_of, standing}
-use Rattle.gor_cell.specs.Blocks.{bare, leading}
+use Rattle.gor_cell.specs.Packed.{Packed, IsPackedCell, AreSealed, Rising, blocks_of, standing}
+use Rattle.gor_cell.specs.Blocks.{bare_block, leading}
 
 pub rising_lower : (low high : ℕ) (xs : List PointBlock) → low ≤ high → Rising high xs → Rising low xs
 rising_lower low high [] h r = tt
@@ -45,20 +45,20 @@ below_floor floor w [] a = tt
 below_floor floor w (None ∷ places) a = below_floor floor (w + 1) places a
 below_floor floor w (Some b ∷ places) a = let under = a.0.under in (omega arith, below_floor floor (w + 1) places a.1)
 
-pub rising_cell : (s : Packed) → IsPacked s → Rising s.sealed.first (blocks_of s)
+pub rising_cell : (s : Packed) → IsPackedCell s → Rising s.sealed.first (blocks_of s)
 rising_cell s p =
     let first = p.first in
     rising_both s.sealed.first (window s.floor) (standing s.sealed.items) s.later (rising_standing s.floor s.sealed.first s.sealed.items p.sealed) (below_floor s.floor s.sealed.first s.sealed.items p.sealed) p.rising (omega arith)
 
-rising_bare : (low : ℕ) (xs : List PointBlock) → Rising low xs → Rising low (map bare xs)
+rising_bare : (low : ℕ) (xs : List PointBlock) → Rising low xs → Rising low (map bare_block xs)
 rising_bare low [] r = tt
 rising_bare low (x ∷ xs) r = (r.0, rising_bare (x.window + 1) xs r.1)
 
-bare_rising : (low : ℕ) (xs : List PointBlock) → Rising low (map bare xs) → Rising low xs
+bare_rising : (low : ℕ) (xs : List PointBlock) → Rising low (map bare_block xs) → Rising low xs
 bare_rising low [] r = tt
 bare_rising low (x ∷ xs) r = (r.0, bare_rising (x.window + 1) xs r.1)
 
-pub rising_copy : (low : ℕ) (xs ys : List PointBlock) → map bare xs ≡ map bare ys → Rising low ys → Rising low xs
+pub rising_copy : (low : ℕ) (xs ys : List PointBlock) → map bare_block xs ≡ map bare_block ys → Rising low ys → Rising low xs
 rising_copy low xs ys e r = bare_rising low xs (subst (Rising low) (sym e) (rising_bare low ys r))
 
 -- ---- the blocks up to a window, and the others

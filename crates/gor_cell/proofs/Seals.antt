@@ -11,8 +11,8 @@ use Rattle.gor_model.specs.Shares.{SeriesShare}
 use Rattle.gor_model.proofs.Lists.{all_paired, all_weaker, all_front, all_behind, filter_all, all_filter, all_of}
 use Rattle.gor_block.specs.PointBlock.{PointBlock}
 use Rattle.gor_ring.specs.Places.{advanced}
-use Rattle.gor_cell.specs.Packed.{Packed, IsPacked, IsLater, IsSealed, Rising, blocks_of, points_of, points_in, standing}
-use Rattle.gor_cell.specs.Stands.{StandsFor}
+use Rattle.gor_cell.specs.Packed.{Packed, IsPackedCell, IsLater, IsSealedBlock, Rising, blocks_of, packed_points, points_of_blocks, standing}
+use Rattle.gor_cell.specs.Stands.{PackedStands}
 use Rattle.gor_cell.specs.Steps.{after_seal, in_windows, IsPiece, ArePieces}
 use Rattle.gor_cell.specs.Blocks.{chosen, is_chosen, leading, with_blocks, AddsCopies}
 use Rattle.gor_cell.proofs.Later.{rising_front}
@@ -50,7 +50,7 @@ window_of_end w = omega arith
 
 -- what a seal needs
 pub record MaySeal (s : Packed) (w : ℕ) : Type 0 where
-  pub is : IsPacked s
+  pub is : IsPackedCell s
   pub twelve : length s.sealed.items ≡ 12
   pub above : s.floor < window_end w
 
@@ -70,7 +70,7 @@ module _ (s : Packed) (w : ℕ) (may : MaySeal s w) where
   first_low : s.sealed.first ≤ w - 11
   first_low = let first = may.is.first in let low = floor_low in omega arith
 
-  seals_block : (b : PointBlock) → IsLater s.floor b → b.window ≤ w → w - 11 ≤ b.window → IsSealed (window_end w) b.window b
+  seals_block : (b : PointBlock) → IsLater s.floor b → b.window ≤ w → w - 11 ≤ b.window → IsSealedBlock (window_end w) b.window b
   seals_block b l high low = let e = window_of_end w in record { unit = l.unit; block = l.block; place = refl; under = omega arith; kept = omega arith }
 
   takes : Takes (window_end w) (window s.floor) front (advanced (w - 11) s.sealed)
@@ -81,7 +81,7 @@ module _ (s : Packed) (w : ℕ) (may : MaySeal s w) where
         (all_filter (λ (c : PointBlock). c.window < window s.floor) (λ b. nat_le (w - 11) b.window) (standing s.sealed.items) (below_floor s.floor s.sealed.first s.sealed.items may.is.sealed));
     rising = rising_front (window s.floor) front rest (subst (Rising (window s.floor)) (sym whole) may.is.rising);
     fits = all_weaker (λ (b : PointBlock). b.window ≤ w) (λ b. b.window < w - 11 + 12) front (λ b h. omega arith) (leading_front w s.later);
-    seals = all_paired (IsLater s.floor) (λ (b : PointBlock). b.window ≤ w) (λ b. w - 11 ≤ b.window → IsSealed (window_end w) b.window b) front seals_block
+    seals = all_paired (IsLater s.floor) (λ (b : PointBlock). b.window ≤ w) (λ b. w - 11 ≤ b.window → IsSealedBlock (window_end w) b.window b) front seals_block
         (all_front (IsLater s.floor) front rest (subst (AllByRecursion (IsLater s.floor)) (sym whole) may.is.later)) (leading_front w s.later);
   }
 
@@ -101,7 +101,7 @@ module _ (s : Packed) (w : ℕ) (may : MaySeal s w) where
     reached = all_weaker (λ (p : Point). window p.time ≡ b.window) (λ p. window_end w ≤ p.time) b.points (λ p e. omega arith) (inside b (record { unit = l.unit; block = l.block }));
   }
 
-  pub sealed_packed : IsPacked (sealed_cell s w)
+  pub sealed_packed : IsPackedCell (sealed_cell s w)
   sealed_packed = record {
     first = let first = fill.first in let e = window_of_end w in omega arith;
     sealed = fill.sealed;
@@ -132,12 +132,12 @@ module _ (s : Packed) (w : ℕ) (may : MaySeal s w) where
       by true h = let low = leb-true (w - 11) v h in le-leb (window_end w) (p.time + 86400 * per store_unit) (omega arith) ∙ sym h
       by false h = let high = leb-false (w - 11) v h in lt-leb (window_end w) (p.time + 86400 * per store_unit) (omega arith) ∙ sym h
 
-  pub sealed_points : points_of (sealed_cell s w) ≡ kept (window_end w) (points_of s)
-  sealed_points = ap points_in sealed_blocks
+  pub sealed_points : packed_points (sealed_cell s w) ≡ kept (window_end w) (packed_points s)
+  sealed_points = ap points_of_blocks sealed_blocks
       ∙ points_filter (is_kept (window_end w)) old_enough (blocks_of s)
       (all_weaker IsRight (Agrees (is_kept (window_end w)) old_enough) (blocks_of s) (λ b r. agrees_by (nat_le (w - 11)) (is_kept (window_end w)) b r (λ p e. kept_by_window p b.window e)) (right_cell s may.is))
 
-  pub seal_stands : (share : SeriesShare) → StandsFor s share → StandsFor (sealed_cell s w) (after_seal w share)
+  pub seal_stands : (share : SeriesShare) → PackedStands s share → PackedStands (sealed_cell s w) (after_seal w share)
   seal_stands share st = record {
     key = st.key;
     name = st.name;
@@ -164,7 +164,7 @@ module _ (s : Packed) (w : ℕ) (may : MaySeal s w) where
       ∙ (and_more (nat_le (w - 11) v) (nat_le first v) (nat_le v w) ∙ ap (λ t. t && nat_le v w) (sym (max_test first (w - 11) v)))
 
   -- the copies of the blocks of the windows that are still kept
-  pub sealed_pieces : (first : ℕ) (copies : List PointBlock) → AddsCopies (chosen (max first (w - 11)) w (blocks_of s)) [] copies → ArePieces first w (points_of (sealed_cell s w)) copies
+  pub sealed_pieces : (first : ℕ) (copies : List PointBlock) → AddsCopies (chosen (max first (w - 11)) w (blocks_of s)) [] copies → ArePieces first w (packed_points (sealed_cell s w)) copies
   sealed_pieces first copies e = record {
     rising = rising_copy first copies taken e (rising_from s.sealed.first first taken
         (rising_filter (is_chosen (max first (w - 11)) w) s.sealed.first (blocks_of s) (rising_cell s may.is))
@@ -175,8 +175,8 @@ module _ (s : Packed) (w : ℕ) (may : MaySeal s w) where
         (all_filter IsRight (is_chosen (max first (w - 11)) w) (blocks_of s) (right_cell s may.is)) (filter_passes (is_chosen (max first (w - 11)) w) (blocks_of s)));
     all = points_copy copies taken e ∙ (points_chosen (max first (w - 11)) w (blocks_of s) (right_cell s may.is) ∙ sym
         (ap (filter (in_windows first w)) sealed_points
-        ∙ filter_twice (in_windows first w) (is_kept (window_end w)) (in_windows (max first (w - 11)) w) (points_of s)
-        (all_of (λ p. (is_kept (window_end w) p && in_windows first w p) ≡ in_windows (max first (w - 11)) w p) (points_of s) (both_tests first))));
+        ∙ filter_twice (in_windows first w) (is_kept (window_end w)) (in_windows (max first (w - 11)) w) (packed_points s)
+        (all_of (λ p. (is_kept (window_end w) p && in_windows first w p) ≡ in_windows (max first (w - 11)) w p) (packed_points s) (both_tests first))));
   }
     where
       taken : List PointBlock

@@ -5,7 +5,7 @@ use Rattle.gor_model.specs.Windows.{window}
 use Rattle.gor_model.specs.PlainMap.{last_of}
 use Rattle.gor_block.specs.PointBlock.{PointBlock, point_room}
 use Rattle.gor_ring.specs.Places.{Places, with_item}
-use Rattle.gor_cell.specs.Packed.{IsLater, Rising, points_in, last_time}
+use Rattle.gor_cell.specs.Packed.{IsLater, Rising, points_of_blocks, last_time_of_points}
 
 -- whether a block has a point
 abbrev pub has_point : PointBlock → Bool
@@ -14,8 +14,8 @@ has_point b = is_some (last_of b.points)
 -- ---- copies
 
 -- a block without its room
-abbrev pub bare : PointBlock → PointBlock
-bare b = record { unit = b.unit; window = b.window; points = b.points; room = 0 }
+abbrev pub bare_block : PointBlock → PointBlock
+bare_block b = record { unit = b.unit; window = b.window; points = b.points; room = 0 }
 
 -- a block that has a point, in some windows
 abbrev pub is_chosen : ℕ → ℕ → PointBlock → Bool
@@ -26,7 +26,7 @@ chosen first last blocks = filter (is_chosen first last) blocks
 
 -- copies of some blocks follow others
 abbrev pub AddsCopies : List PointBlock → List PointBlock → List PointBlock → Type 0
-AddsCopies blocks old new = map bare new ≡ map bare old ++ map bare blocks
+AddsCopies blocks old new = map bare_block new ≡ map bare_block old ++ map bare_block blocks
 
 -- ---- the blocks that are not sealed
 
@@ -37,7 +37,7 @@ pub record AreLater (floor : ℕ) (later : List PointBlock) : Type 0 where
 -- a time is not below a floor, and later than all points
 pub record MayCome (floor time : ℕ) (later : List PointBlock) : Type 0 where
   pub reached : floor ≤ time
-  pub behind : IfSome (last_time (points_in later)) (λ last. last < time)
+  pub behind : IfSome (last_time_of_points (points_of_blocks later)) (λ last. last < time)
 
 -- whether there is a last block, and it has no point
 abbrev pub lacks_points : Option PointBlock → Bool
@@ -73,7 +73,7 @@ pub record IsLeading (w : ℕ) (blocks : List PointBlock) (count : ℕ) : Type 0
 pub record Trimmed (old new : List PointBlock) : Type 0 where
   pub back : List PointBlock
   pub all : old ≡ new ++ back
-  pub none : points_in back ≡ []
+  pub none : points_of_blocks back ≡ []
 
 -- ---- a seal
 

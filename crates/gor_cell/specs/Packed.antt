@@ -30,19 +30,19 @@ standing (None ∷ places) = standing places
 standing (Some b ∷ places) = b ∷ standing places
 
 -- the points of some blocks, in order
-abbrev pub points_in : List PointBlock → List Point
-points_in [] = []
-points_in (b ∷ blocks) = b.points ++ points_in blocks
+abbrev pub points_of_blocks : List PointBlock → List Point
+points_of_blocks [] = []
+points_of_blocks (b ∷ blocks) = b.points ++ points_of_blocks blocks
 
 abbrev pub blocks_of : Packed → List PointBlock
 blocks_of s = standing s.sealed.items ++ s.later
 
-abbrev pub points_of : Packed → List Point
-points_of s = points_in (blocks_of s)
+abbrev pub packed_points : Packed → List Point
+packed_points s = points_of_blocks (blocks_of s)
 
 -- the time of the last of some points
-abbrev pub last_time : List Point → Option ℕ
-last_time points = option_map (λ p. p.time) (last_of points)
+abbrev pub last_time_of_points : List Point → Option ℕ
+last_time_of_points points = option_map (λ p. p.time) (last_of points)
 
 -- ---- what is so of every live cell
 
@@ -58,7 +58,7 @@ pub record IsLater (floor : ℕ) (b : PointBlock) : Type 0 where
   pub reached : AllByRecursion (λ p. floor ≤ p.time) b.points
 
 -- a sealed block, in the place of a window: it ends under the floor, and begins a day behind it or later
-pub record IsSealed (floor w : ℕ) (b : PointBlock) : Type 0 where
+pub record IsSealedBlock (floor w : ℕ) (b : PointBlock) : Type 0 where
   pub unit : b.unit ≡ store_unit
   pub block : IsBlock b
   pub place : b.window ≡ w
@@ -69,9 +69,9 @@ pub record IsSealed (floor w : ℕ) (b : PointBlock) : Type 0 where
 abbrev pub AreSealed : ℕ → ℕ → List (Option PointBlock) → Type 0
 AreSealed floor w [] = ⊤
 AreSealed floor w (None ∷ places) = AreSealed floor (w + 1) places
-AreSealed floor w (Some b ∷ places) = IsSealed floor w b × AreSealed floor (w + 1) places
+AreSealed floor w (Some b ∷ places) = IsSealedBlock floor w b × AreSealed floor (w + 1) places
 
-pub record IsPacked (s : Packed) : Type 0 where
+pub record IsPackedCell (s : Packed) : Type 0 where
   pub first : s.sealed.first ≤ window s.floor - 12
   pub sealed : AreSealed s.floor s.sealed.first s.sealed.items
   pub later : AllByRecursion (IsLater s.floor) s.later

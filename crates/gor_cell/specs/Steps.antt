@@ -10,13 +10,13 @@ use Rattle.gor_model.specs.Windows.{store_unit, window, window_end, kept}
 use Rattle.gor_model.specs.PlainMap.{last_of}
 use Rattle.gor_model.specs.Answers.{in_range}
 use Rattle.gor_model.specs.Shares.{SeriesShare, JournalShare}
-use Rattle.gor_model.specs.SharesAfter.{pushed, sealed_to}
+use Rattle.gor_model.specs.SharesAfter.{point_pushed, sealed_to}
 use Rattle.gor_model.specs.AnswersByShares.{due_by}
 use Rattle.gor_block.specs.PointBlock.{PointBlock, IsBlock, point_room}
 use Rattle.gor_cell.specs.declared.cell_put.CellPut.{CellPut}
 use Rattle.gor_cell.specs.declared.cell_put.CellPut.TheVariants.{Stored, NotLater, Closed}
 use Rattle.gor_cell.specs.declared.copied.Copied.{Copied}
-use Rattle.gor_cell.specs.Packed.{Packed, points_in, points_of, last_time, Rising}
+use Rattle.gor_cell.specs.Packed.{Packed, points_of_blocks, packed_points, last_time_of_points, Rising}
 
 abbrev pub holds_key : List ℕ → Option Packed → Bool
 holds_key key None = false
@@ -36,7 +36,7 @@ put_behind (Some last) time = if nat_le time last then NotLater last else Stored
 
 -- the first that holds: the floor closes the time, the last kept point is as late, it is stored
 abbrev pub put_over : ℕ → List Point → ℕ → CellPut
-put_over floor points time = if nat_lt time floor then Closed floor else put_behind (last_time points) time
+put_over floor points time = if nat_lt time floor then Closed floor else put_behind (last_time_of_points points) time
 
 abbrev pub put_answer : SeriesShare → ℕ → CellPut
 put_answer share time = put_over share.row.floor share.row.points time
@@ -47,14 +47,14 @@ reply_of journal Stored = reply.Stored (due_by journal)
 reply_of journal (NotLater last) = reply.Late last
 reply_of journal (Closed floor) = reply.Closed floor
 
-abbrev pub with_put : Point → CellPut → SeriesShare → SeriesShare
-with_put p Stored share = record { key = share.key; row = pushed p share.row }
-with_put p (NotLater last) share = share
-with_put p (Closed floor) share = share
+abbrev pub share_with_put : Point → CellPut → SeriesShare → SeriesShare
+share_with_put p Stored share = record { key = share.key; row = point_pushed p share.row }
+share_with_put p (NotLater last) share = share
+share_with_put p (Closed floor) share = share
 
 -- the share after a put
 abbrev pub after_put : ℕ → ℕ → SeriesShare → SeriesShare
-after_put time word share = with_put (record { time = time; word = word }) (put_answer share time) share
+after_put time word share = share_with_put (record { time = time; word = word }) (put_answer share time) share
 
 -- the last block has room for a point at a time
 abbrev pub IsOpen : ℕ → List PointBlock → Type 0
@@ -63,13 +63,13 @@ IsOpen time later = IsSomeAnd (last_of later) (λ b. (b.window ≡ window time) 
 -- room for a point at a time, where it is stored
 abbrev pub HasRoom : Option Packed → ℕ → Type 0
 HasRoom None time = ⊥
-HasRoom (Some s) time = put_over s.floor (points_of s) time ≡ Stored → IsOpen time s.later
+HasRoom (Some s) time = put_over s.floor (packed_points s) time ≡ Stored → IsOpen time s.later
 
 -- ---- a read
 
 -- the points that a copy gives
 abbrev pub copied_points : Copied → List Point
-copied_points c = filter (in_range c.from c.to) (kept c.floor (points_in c.blocks.items))
+copied_points c = filter (in_range c.from c.to) (kept c.floor (points_of_blocks c.blocks.items))
 
 -- a copy of the blocks whose windows meet a range
 pub record IsCopyOf (s : Packed) (from to : ℕ) (c : Copied) : Type 0 where
@@ -77,7 +77,7 @@ pub record IsCopyOf (s : Packed) (from to : ℕ) (c : Copied) : Type 0 where
   pub first : c.from ≡ from
   pub last : c.to ≡ to
   pub meets : AllByRecursion (λ b. (window from ≤ b.window) × (b.window ≤ window to)) c.blocks.items
-  pub points : copied_points c ≡ filter (in_range from to) (points_of s)
+  pub points : copied_points c ≡ filter (in_range from to) (packed_points s)
 
 -- ---- a seal
 
@@ -101,4 +101,4 @@ pub record IsPiece (first last : ℕ) (b : PointBlock) : Type 0 where
 pub record ArePieces (first last : ℕ) (points : List Point) (blocks : List PointBlock) : Type 0 where
   pub rising : Rising first blocks
   pub pieces : AllByRecursion (IsPiece first last) blocks
-  pub all : points_in blocks ≡ filter (in_windows first last) points
+  pub all : points_of_blocks blocks ≡ filter (in_windows first last) points

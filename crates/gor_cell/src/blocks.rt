@@ -2,11 +2,11 @@
 ghost use Rattle.std.specs.Prelude.{◌≡◌, ◌+◌, ◌-◌, ◌≤◌, ◌<◌, ℕ, [], ◌∷◌, ◌++◌, length, take, drop, IfSome, IfOk, OnOk, OnErr, Some, None, false};
 ghost use Rattle.gor_model.specs.Windows.{window as window_at, greatest_time, last_window, store_unit};
 ghost use Rattle.gor_model.specs.PlainMap.{last_of};
-ghost use Rattle.gor_block.specs.PointBlock.{PointBlock, IsBlock, MayFollow, followed, point_room};
+ghost use Rattle.gor_block.specs.PointBlock.{PointBlock, IsBlock, PointMayFollow, followed, point_room};
 ghost use Rattle.gor_ring.specs.Places.{Places};
-ghost use Rattle.gor_cell.specs.Packed.{points_in, standing, last_time};
+ghost use Rattle.gor_cell.specs.Packed.{points_of_blocks, standing, last_time_of_points};
 ghost use Rattle.gor_cell.specs.Steps.{IsOpen};
-ghost use Rattle.gor_cell.specs.Blocks.{bare, chosen, is_chosen, AddsCopies, has_point, AreLater, MayCome, Trimmed, lacks_points, with_last, roomy, lies_in, leading, IsLeading, with_block, with_blocks};
+ghost use Rattle.gor_cell.specs.Blocks.{bare_block, chosen, is_chosen, AddsCopies, has_point, AreLater, MayCome, Trimmed, lacks_points, with_last, roomy, lies_in, leading, IsLeading, with_block, with_blocks};
 
 use crate::boxed::BoxedBlock;
 use gor_block::Block;
@@ -35,7 +35,7 @@ fn has_points(block: &BoxedBlock) -> bool
 /// looks at one block or two.
 #[tactic(auto, using(crate::proofs::Points::time_snoc_some, crate::proofs::Points::time_snoc_none))]
 pub fn last_in(blocks: &[BoxedBlock]) -> Option<u64>
-    ensures { result ≡ last_time (points_in blocks.now) }
+    ensures { result ≡ last_time_of_points (points_of_blocks blocks.now) }
 {
     for block in blocks.iter().rev() {
         if let Some(time) = block.last() {
@@ -48,7 +48,7 @@ pub fn last_in(blocks: &[BoxedBlock]) -> Option<u64>
 /// The time of the last point of the blocks that stand in some places.
 #[tactic(auto, using(crate::proofs::Points::time_standing_some, crate::proofs::Points::time_standing_none, crate::proofs::Points::time_standing_gap))]
 pub fn last_standing(places: &[Option<BoxedBlock>]) -> Option<u64>
-    ensures { result ≡ last_time (points_in (standing places.now)) }
+    ensures { result ≡ last_time_of_points (points_of_blocks (standing places.now)) }
 {
     for place in places.iter().rev() {
         if let Some(block) = place {
@@ -126,7 +126,7 @@ fn is_meant(block: &BoxedBlock, first: u64, last: u64) -> bool
 #[tactic(auto, using(crate::proofs::Later::open_added, crate::proofs::Later::open_reserved, crate::proofs::Later::later_reserved, crate::proofs::Later::trim_later, crate::proofs::Later::trim_points, crate::proofs::Later::opened_later, crate::proofs::Later::opened_points, crate::proofs::Later::reserved_points))]
 pub fn open_for(alloc: Global, later: &mut Vec<BoxedBlock>, time: u64) -> Result<(), AllocError>
     requires { time ≤ greatest_time }
-    ensures points { points_in later.new.items ≡ points_in later.old.items }
+    ensures points { points_of_blocks later.new.items ≡ points_of_blocks later.old.items }
     ensures later { (floor : ℕ) → MayCome floor time later.old.items → AreLater floor later.old.items → AreLater floor later.new.items }
     ensures room { OnOk result (IsOpen time later.new.items) }
 {
@@ -198,7 +198,7 @@ fn add_block(alloc: Global, later: &mut Vec<BoxedBlock>, window: u32) -> Result<
 /// Puts a point into the last block, which has the room. It takes no memory.
 pub fn push_last(later: &mut Vec<BoxedBlock>, point: Point)
     requires open { IsOpen point.time later.old.items }
-    requires next { IfSome (last_of later.old.items) (λ b. MayFollow b point) }
+    requires next { IfSome (last_of later.old.items) (λ b. PointMayFollow b point) }
     ensures later { later.new.items ≡ with_last (λ b. followed b point) later.old.items }
     // What is so of every block.
     ensures sound { IfSome (last_of later.new.items) IsBlock }

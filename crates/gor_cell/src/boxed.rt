@@ -1,6 +1,6 @@
 //! A block that lies in a box.
 ghost use Rattle.std.specs.Prelude.{◌≡◌, ◌≤◌, max, IsOk, IfOk, OnOk, OnErr};
-ghost use Rattle.gor_block.specs.PointBlock.{IsBlock, IsSame, MayFollow, followed, last_time, point_room};
+ghost use Rattle.gor_block.specs.PointBlock.{IsBlock, IsSame, PointMayFollow, followed, last_time_of_block, point_room};
 
 use gor_block::Block;
 use gor_model::Point;
@@ -45,7 +45,7 @@ impl BoxedBlock {
 
     /// The last point's time; None exactly where there is no point.
     pub(crate) fn last(&self) -> Option<u64>
-        ensures last { result ≡ last_time self.now }
+        ensures last { result ≡ last_time_of_block self.now }
         // What is so of every block.
         ensures sound { IsBlock self.now }
     {
@@ -64,7 +64,7 @@ impl BoxedBlock {
     /// Adds a point behind the others, where the room for it is there. It takes no memory.
     pub(crate) fn push_reserved(&mut self, point: Point)
         requires room { point_room ≤ self.old.room }
-        requires next { MayFollow self.old point }
+        requires next { PointMayFollow self.old point }
         ensures { self.new ≡ followed self.old point }
     {
         self.boxed.push_reserved(point)

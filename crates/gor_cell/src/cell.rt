@@ -3,8 +3,8 @@ ghost use Rattle.std.specs.Prelude.{◌≡◌, ◌≤◌, ◌<◌, ℕ, IsSome, 
 ghost use Rattle.gor_model.specs.Windows.{window_end, greatest_time};
 ghost use Rattle.gor_model.specs.Shares.{JournalShare};
 ghost use Rattle.gor_model.specs.AnswersByShares.{put_there_by, unless_by};
-ghost use Rattle.gor_cell.specs.Packed.{points_of, last_time};
-ghost use Rattle.gor_cell.specs.Stands.{Stands, ByShare, KeepsShare};
+ghost use Rattle.gor_cell.specs.Packed.{packed_points, last_time_of_points};
+ghost use Rattle.gor_cell.specs.Stands.{CellStands, ByShare, KeepsShare};
 ghost use Rattle.gor_cell.specs.Steps.{holds_key, begun_empty, put_answer, reply_of, after_put, HasRoom, IsCopyOf, after_seal, ArePieces};
 
 use crate::cell_put::CellPut;
@@ -74,7 +74,7 @@ impl Cell {
     /// The time of the last kept point; None exactly where no point is kept.
     pub fn last(&self) -> Option<u64>
         requires { IsSome self.now.live }
-        ensures { IfSome self.now.live (λ s. result ≡ last_time (points_of s)) }
+        ensures { IfSome self.now.live (λ s. result ≡ last_time_of_points (packed_points s)) }
     {
         self.series().last()
     }
@@ -90,7 +90,7 @@ impl Cell {
     /// Begins a series with no points, under a floor. It takes no memory.
     pub fn occupy(&mut self, name: Name, uid: u64, floor: u64)
         requires { self.old.live ≡ None }
-        ensures { (slot : ℕ) → Stands self.new.live (Some (begun_empty name slot uid floor)) }
+        ensures { (slot : ℕ) → CellStands self.new.live (Some (begun_empty name slot uid floor)) }
     {
         self.live = Some(LiveCell::begun(self.alloc, name, uid, floor));
     }
@@ -125,7 +125,7 @@ impl Cell {
         requires { HasRoom self.old.live time }
         ensures answer { ByShare self.old.live (λ share. result ≡ put_answer share time) }
         ensures reply { ByShare self.old.live (λ share. (journal : JournalShare) → put_there_by journal share time ≡ unless_by journal.stopped (reply_of journal result)) }
-        ensures share { ByShare self.old.live (λ share. Stands self.new.live (Some (after_put time word share))) }
+        ensures share { ByShare self.old.live (λ share. CellStands self.new.live (Some (after_put time word share))) }
     {
         match &mut self.live {
             Some(live) => live.put_reserved(time, word),
@@ -149,8 +149,8 @@ impl Cell {
         requires live { IsSome self.old.live }
         requires windows { first ≤ window }
         requires above { IfSome self.old.live (λ s. s.floor < window_end window) }
-        ensures share { OnOk result (ByShare self.old.live (λ share. Stands self.new.live (Some (after_seal window share)))) }
-        ensures blocks { IfOk result (λ sealed. IfSome self.new.live (λ s. ArePieces first window (points_of s) sealed.blocks.items)) }
+        ensures share { OnOk result (ByShare self.old.live (λ share. CellStands self.new.live (Some (after_seal window share)))) }
+        ensures blocks { IfOk result (λ sealed. IfSome self.new.live (λ s. ArePieces first window (packed_points s) sealed.blocks.items)) }
         ensures err { OnErr result (self.new.live ≡ self.old.live) }
     {
         match &mut self.live {

@@ -12,7 +12,7 @@
 //! - `copied`: [`Copied`], blocks that were copied for a read, and [`SealedBlocks`].
 //! - `cell_put`: [`CellPut`], what a put is answered.
 //!
-//! The definitions that clauses cite stand in `specs/`: `Packed` says what is so of every live cell, `Stands` when a cell
+//! The definitions that clauses cite stand in `specs/`: `Packed` says what is so of every live cell, `CellStands` when a cell
 //! stands for its series' share, and `Steps` what each call is by that share.
 #![tactic(auto)]
 

@@ -2,8 +2,8 @@
 ghost use Rattle.std.specs.Prelude.{◌≡◌, ◌≤◌, ◌<◌, ℕ, IfOk, OnOk, OnErr, Some, []};
 ghost use Rattle.gor_model.specs.Windows.{window_end, greatest_time};
 ghost use Rattle.gor_cell.specs.Blocks.{AddsCopies, chosen};
-ghost use Rattle.gor_cell.specs.Packed.{blocks_of, points_of, last_time};
-ghost use Rattle.gor_cell.specs.Stands.{ByShare, KeepsShare, Stands, StandsFor};
+ghost use Rattle.gor_cell.specs.Packed.{blocks_of, packed_points, last_time_of_points};
+ghost use Rattle.gor_cell.specs.Stands.{ByShare, KeepsShare, CellStands, PackedStands};
 ghost use Rattle.gor_cell.specs.Steps.{begun_empty, put_over, after_put, HasRoom, IsCopyOf, after_seal, ArePieces};
 
 use crate::blocks::{copy_later, last_in, open_for, push_last};
@@ -34,19 +34,19 @@ pub struct LiveCell {
 }
 
 impl Model for LiveCell {
-    ghost use Rattle.gor_cell.specs.Packed.{Packed, IsPacked};
+    ghost use Rattle.gor_cell.specs.Packed.{Packed, IsPackedCell};
 
     ghost Value = { Packed };
 
     ghost view = { λ s. record { name = s.name; uid = s.uid; floor = s.floor; later = s.later.items; sealed = s.sealed } };
 
-    ghost invariant = { λ s. IsPacked (record { name = s.name; uid = s.uid; floor = s.floor; later = s.later.items; sealed = s.sealed }) };
+    ghost invariant = { λ s. IsPackedCell (record { name = s.name; uid = s.uid; floor = s.floor; later = s.later.items; sealed = s.sealed }) };
 }
 
 impl LiveCell {
     /// A series with no points. It takes no memory.
     pub(crate) fn begun(alloc: Global, name: Name, uid: u64, floor: u64) -> LiveCell
-        ensures { (slot : ℕ) → StandsFor result (begun_empty name slot uid floor) }
+        ensures { (slot : ℕ) → PackedStands result (begun_empty name slot uid floor) }
     {
         LiveCell {
             name,
@@ -59,7 +59,7 @@ impl LiveCell {
 
     /// The time of the last point.
     pub(crate) fn last(&self) -> Option<u64>
-        ensures { result ≡ last_time (points_of self.now) }
+        ensures { result ≡ last_time_of_points (packed_points self.now) }
     {
         match last_in(&self.later) {
             Some(time) => Some(time),
@@ -69,7 +69,7 @@ impl LiveCell {
 
     /// What a put at a time is answered.
     fn answer(&self, time: u64) -> CellPut
-        ensures { result ≡ put_over self.now.floor (points_of self.now) time }
+        ensures { result ≡ put_over self.now.floor (packed_points self.now) time }
     {
         if time < self.floor {
             return CellPut::Closed { floor: self.floor };
@@ -95,8 +95,8 @@ impl LiveCell {
     /// Puts a point where the room for it is there.
     pub(crate) fn put_reserved(&mut self, time: u64, word: u64) -> CellPut
         requires { HasRoom (Some self.old) time }
-        ensures answer { result ≡ put_over self.old.floor (points_of self.old) time }
-        ensures share { ByShare (Some self.old) (λ share. Stands (Some self.new) (Some (after_put time word share))) }
+        ensures answer { result ≡ put_over self.old.floor (packed_points self.old) time }
+        ensures share { ByShare (Some self.old) (λ share. CellStands (Some self.new) (Some (after_put time word share))) }
     {
         let answer = self.answer(time);
         if let CellPut::Stored = answer {
@@ -137,8 +137,8 @@ impl LiveCell {
     ) -> Result<SealedBlocks, AllocError>
         requires windows { first ≤ window }
         requires above { self.old.floor < window_end window }
-        ensures share { OnOk result (ByShare (Some self.old) (λ share. Stands (Some self.new) (Some (after_seal window share)))) }
-        ensures blocks { IfOk result (λ sealed. ArePieces first window (points_of self.new) sealed.blocks.items) }
+        ensures share { OnOk result (ByShare (Some self.old) (λ share. CellStands (Some self.new) (Some (after_seal window share)))) }
+        ensures blocks { IfOk result (λ sealed. ArePieces first window (packed_points self.new) sealed.blocks.items) }
         ensures err { OnErr result (self.new ≡ self.old) }
     {
         let oldest = window.saturating_sub(11);

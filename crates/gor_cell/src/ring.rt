@@ -1,7 +1,7 @@
 //! The ring of a series' sealed blocks, in a box that is made by the first seal.
 ghost use Rattle.std.specs.Prelude.{◌≡◌, ◌≤◌, ◌<◌, ◌+◌, length, take, drop, IfOk, OnOk, OnErr};
 ghost use Rattle.gor_ring.specs.Places.{empty, advanced};
-ghost use Rattle.gor_cell.specs.Packed.{points_in, standing, last_time};
+ghost use Rattle.gor_cell.specs.Packed.{points_of_blocks, standing, last_time_of_points};
 ghost use Rattle.gor_cell.specs.Blocks.{AddsCopies, chosen, leading, with_blocks};
 
 use crate::blocks::{copy_standing, last_standing, move_leading};
@@ -60,7 +60,7 @@ impl SealedRing {
 
     /// The time of the last point of the sealed blocks.
     pub(crate) fn last(&self) -> Option<u64>
-        ensures { result ≡ last_time (points_in (standing self.now.items)) }
+        ensures { result ≡ last_time_of_points (points_of_blocks (standing self.now.items)) }
     {
         match &self.ring {
             Some(ring) => last_standing(ring.places()),

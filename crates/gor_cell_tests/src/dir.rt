@@ -1,7 +1,7 @@
 //! Tests of directories: a case is what is done to one directory, step by step, with what is wanted of each step.
 ghost use Rattle.std.specs.Prelude.{◌≡◌, filter, OnOk};
 ghost use Rattle.gor_model.specs.Objects.{Has};
-ghost use Rattle.gor_dir.specs.Listings.{shown};
+ghost use Rattle.gor_dir.specs.Listings.{directory_shown};
 ghost use Rattle.gor_dir.specs.Pools.{is_apart};
 
 use gor_dir::Directory;
@@ -258,8 +258,8 @@ fn a_thousand_names_come_and_go(rt: HostRuntime) -> Result<(), Fail> {
 
 /// Restores a row with the uid 50, whose slot is free and whose key is absent.
 fn take_up(alloc: Global, directory: &mut Directory, text: &str, slot: u32) -> Result<(), Fail>
-    requires { Has (shown directory.old).free slot }
-    ensures { OnOk result ((shown directory.new).free ≡ filter (is_apart slot) (shown directory.old).free) }
+    requires { Has (directory_shown directory.old).free slot }
+    ensures { OnOk result ((directory_shown directory.new).free ≡ filter (is_apart slot) (directory_shown directory.old).free) }
 {
     let name = Name::read(alloc, text)?;
     match directory.find(name.key()) {

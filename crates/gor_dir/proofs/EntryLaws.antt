@@ -12,18 +12,18 @@ use Rattle.std.proofs.lemmas.Option.{slice_get-map, slice_get-get_or}
 use Rattle.indexmap.specs.IndexMap.{swap_remove_entry}
 use Rattle.indexmap.proofs.MapLemmas.{Found, Found-position, Missing-position, swap_remove_entry-found}
 use Rattle.gor_model.specs.Names.{key_of}
-use Rattle.gor_model.specs.Shares.{Entry}
+use Rattle.gor_model.specs.Shares.{DirectoryEntry}
 use Rattle.gor_name.specs.declared.keyed_name.KeyedName.{KeyedName}
 use Rattle.gor_dir.specs.declared.rows.Place.{Place}
 use Rattle.gor_dir.specs.declared.row.DirRow.{DirRow}
-use Rattle.gor_dir.specs.Listings.{keyed, row_under, row_shown}
-use Rattle.gor_dir.specs.Rows.{row_of, LosesRow}
+use Rattle.gor_dir.specs.Listings.{keyed, row_under, entry_shown}
+use Rattle.gor_dir.specs.Rows.{directory_entry_of, LosesRow}
 
 abbrev pub Entries : Type 0
 Entries = List (KeyedName × Place)
 
-abbrev pub rows_of : Entries → List Entry
-rows_of es = map row_of es
+abbrev pub rows_of : Entries → List DirectoryEntry
+rows_of es = map directory_entry_of es
 
 -- the test by which a key is looked up
 abbrev pub has_key : List ℕ → KeyedName → Bool
@@ -37,11 +37,11 @@ unfolding IsDistinct
 no_entries = tt
 
 -- a look-up of a row finds what a look-up of its place finds
-pub row_found : (q : List ℕ) (es : Entries) → option_map (λ (row : Entry). row.slot) (row_under (rows_of es) q) ≡ option_map (λ (place : Place). place.slot) (lookup (has_key q) es)
+pub row_found : (q : List ℕ) (es : Entries) → option_map (λ (row : DirectoryEntry). row.slot) (row_under (rows_of es) q) ≡ option_map (λ (place : Place). place.slot) (lookup (has_key q) es)
 row_found q [] = refl
 row_found q (e ∷ es) = at (has_key q e.0) refl (row_found q es) where
-  at : (b : Bool) → has_key q e.0 ≡ b → option_map (λ (row : Entry). row.slot) (row_under (rows_of es) q) ≡ option_map (λ (place : Place). place.slot) (lookup (has_key q) es)
-      → option_map (λ (row : Entry). row.slot) (row_under (rows_of (e ∷ es)) q) ≡ option_map (λ (place : Place). place.slot) (lookup (has_key q) (e ∷ es))
+  at : (b : Bool) → has_key q e.0 ≡ b → option_map (λ (row : DirectoryEntry). row.slot) (row_under (rows_of es) q) ≡ option_map (λ (place : Place). place.slot) (lookup (has_key q) es)
+      → option_map (λ (row : DirectoryEntry). row.slot) (row_under (rows_of (e ∷ es)) q) ≡ option_map (λ (place : Place). place.slot) (lookup (has_key q) (e ∷ es))
   at true is further = rw is refl
   at false is further = rw is further
 
@@ -51,7 +51,7 @@ is_some-map f (Some x) = refl
 
 pub row_is_there : (q : List ℕ) (es : Entries) → is_some (row_under (rows_of es) q) ≡ is_some (lookup (has_key q) es)
 row_is_there q es =
-    sym (is_some-map (λ (row : Entry). row.slot) (row_under (rows_of es) q)) ∙ ap is_some (row_found q es) ∙ is_some-map (λ (place : Place). place.slot) (lookup (has_key q) es)
+    sym (is_some-map (λ (row : DirectoryEntry). row.slot) (row_under (rows_of es) q)) ∙ ap is_some (row_found q es) ∙ is_some-map (λ (place : Place). place.slot) (lookup (has_key q) es)
 
 pub none_if_not : {A : Type 0} (o : Option A) → is_some o ≡ false → o ≡ None
 none_if_not None is = refl
@@ -74,11 +74,11 @@ rows_apart (e ∷ es) apart = (apart_from e.0 es apart.0, rows_apart es apart.1)
 taken : (q : List ℕ) (e : KeyedName × Place) (es : Entries) (place : Place) → lookup (has_key q) (e ∷ es) ≡ Some place → (i : ℕ) → position (has_key q) (keys_of (e ∷ es)) ≡ Some i
     → LosesRow (rows_of (e ∷ es)) q place.slot (rows_of (swap_remove_entry (has_key q) (e ∷ es)))
 taken q e es place is i at = record {
-  row = row_of x;
+  row = directory_entry_of x;
   keyed = (bytes_decides q (key_of x.0.name)).0 (lookup_key_passes (has_key q) all x.0 key);
   held = ap (λ (p : Place). p.slot) value;
-  rest = subst (λ l. IsPermutation (rows_of all) (row_of x ∷ rows_of l)) (sym (swap_remove_entry-found (has_key q) all i x at))
-      (IsPermutation-map row_of all (x ∷ _) (IsPermutation-swap_remove all i x found.within (get_or_default all i e x found.within)));
+  rest = subst (λ l. IsPermutation (rows_of all) (directory_entry_of x ∷ rows_of l)) (sym (swap_remove_entry-found (has_key q) all i x at))
+      (IsPermutation-map directory_entry_of all (x ∷ _) (IsPermutation-swap_remove all i x found.within (get_or_default all i e x found.within)));
 } where
   all : Entries
   all = e ∷ es
@@ -106,8 +106,8 @@ row_taken q (e ∷ es) place is = at (position (has_key q) (keys_of (e ∷ es)))
   at (Some i) here = taken q e es place is i here
 
 -- one row more is copied
-pub copied_more : (done : List DirRow) (row : DirRow) (e : KeyedName × Place) (left : Entries) (all : List Entry) → row_shown row ≡ row_of e
-    → map row_shown done ++ map row_of (e ∷ left) ≡ all → map row_shown (done ++ row ∷ []) ++ map row_of left ≡ all
+pub copied_more : (done : List DirRow) (row : DirRow) (e : KeyedName × Place) (left : Entries) (all : List DirectoryEntry) → entry_shown row ≡ directory_entry_of e
+    → map entry_shown done ++ map directory_entry_of (e ∷ left) ≡ all → map entry_shown (done ++ row ∷ []) ++ map directory_entry_of left ≡ all
 copied_more done row e left all same is =
-    ap (λ l. l ++ map row_of left) (map-append row_shown done (row ∷ [])) ∙ append_assoc (map row_shown done) (row_shown row ∷ []) (map row_of left)
-    ∙ ap (λ (r : Entry). map row_shown done ++ r ∷ map row_of left) same ∙ is
+    ap (λ l. l ++ map directory_entry_of left) (map-append entry_shown done (row ∷ [])) ∙ append_assoc (map entry_shown done) (entry_shown row ∷ []) (map directory_entry_of left)
+    ∙ ap (λ (r : DirectoryEntry). map entry_shown done ++ r ∷ map directory_entry_of left) same ∙ is

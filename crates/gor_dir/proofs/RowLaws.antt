@@ -11,7 +11,7 @@ use Rattle.std.proofs.lemmas.List.{map-append}
 use Rattle.std.proofs.lemmas.List.Sorted.{IsPermutation-map}
 use Rattle.indexmap.proofs.MapLemmas.{distinct_permutation, lookup_permutation}
 use Rattle.gor_model.specs.Names.{key_of}
-use Rattle.gor_model.specs.Shares.{Entry}
+use Rattle.gor_model.specs.Shares.{DirectoryEntry}
 use Rattle.gor_model.proofs.SlotLaws.{bytes_tell}
 use Rattle.gor_dir.specs.Listings.{keyed, row_under}
 
@@ -28,7 +28,7 @@ or-none None = refl
 or-none (Some x) = refl
 
 -- a row under a key that has none
-pub row_under-push : (rows : List Entry) (row : Entry) (q : List ℕ) → row_under rows (key_of row.name) ≡ None
+pub row_under-push : (rows : List DirectoryEntry) (row : DirectoryEntry) (q : List ℕ) → row_under rows (key_of row.name) ≡ None
     → row_under (rows ++ row ∷ []) q ≡ (if bytes_eq q (key_of row.name) then Some row else row_under rows q)
 row_under-push rows row q absent = split ∙ cases (bytes_tell q (key_of row.name)) where
   split : row_under (rows ++ row ∷ []) q ≡ option_or (row_under rows q) (if bytes_eq q (key_of row.name) then Some row else None)
@@ -45,19 +45,19 @@ same_key k = cases (bytes_tell k k) where
   cases (inl same) = same.0
   cases (inr apart) = absurd (apart.1 refl)
 
-none_under : (k : List ℕ) (rows : List Entry) → AllByRecursion (λ y. bytes_eq k y ≡ false) (keys_of (keyed rows)) → row_under rows k ≡ None
+none_under : (k : List ℕ) (rows : List DirectoryEntry) → AllByRecursion (λ y. bytes_eq k y ≡ false) (keys_of (keyed rows)) → row_under rows k ≡ None
 none_under k [] apart = refl
 none_under k (r ∷ rows) apart = let off : bytes_eq k (key_of r.name) ≡ false = apart.0 in rw off (none_under k rows apart.1)
 
-own_absent : (row : Entry) (rows : List Entry) → IsDistinct bytes_eq (keys_of (keyed (row ∷ rows))) → row_under rows (key_of row.name) ≡ None
+own_absent : (row : DirectoryEntry) (rows : List DirectoryEntry) → IsDistinct bytes_eq (keys_of (keyed (row ∷ rows))) → row_under rows (key_of row.name) ≡ None
 unfolding IsDistinct
 own_absent row rows apart = none_under (key_of row.name) rows apart.0
 
-rest_apart : (row : Entry) (rows : List Entry) → IsDistinct bytes_eq (keys_of (keyed (row ∷ rows))) → IsDistinct bytes_eq (keys_of (keyed rows))
+rest_apart : (row : DirectoryEntry) (rows : List DirectoryEntry) → IsDistinct bytes_eq (keys_of (keyed (row ∷ rows))) → IsDistinct bytes_eq (keys_of (keyed rows))
 unfolding IsDistinct
 rest_apart row rows apart = apart.1
 
-module _ (old new : List Entry) (moves : IsPermutation old new) (apart : IsDistinct bytes_eq (keys_of (keyed old))) where
+module _ (old new : List DirectoryEntry) (moves : IsPermutation old new) (apart : IsDistinct bytes_eq (keys_of (keyed old))) where
   keyed_moves : IsPermutation (keyed old) (keyed new)
   keyed_moves = IsPermutation-map (λ r. (key_of r.name, r)) old new moves
 
@@ -69,7 +69,7 @@ module _ (old new : List Entry) (moves : IsPermutation old new) (apart : IsDisti
   row_under-permutation q = lookup_permutation nat_list_eq_equiv (keyed old) (keyed new) keyed_moves apart-permutation (bytes_eq q) (nat_list_eq_equiv.congr q)
 
 -- a row taken out
-module _ (old new : List Entry) (row : Entry) (moves : IsPermutation old (row ∷ new)) (apart : IsDistinct bytes_eq (keys_of (keyed old))) where
+module _ (old new : List DirectoryEntry) (row : DirectoryEntry) (moves : IsPermutation old (row ∷ new)) (apart : IsDistinct bytes_eq (keys_of (keyed old))) where
   pub row_under-own : row_under old (key_of row.name) ≡ Some row
   row_under-own = sym (row_under-permutation old (row ∷ new) moves apart (key_of row.name)) ∙ rw (same_key (key_of row.name)) refl
 

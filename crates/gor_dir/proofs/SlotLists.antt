@@ -11,10 +11,10 @@ use Rattle.std.proofs.lemmas.List.Elements.{filter-append}
 use Rattle.std.proofs.lemmas.List.Sorted.{IsPermutation-map, IsPermutation-append_left, IsPermutation-middle, IsPermutation-sym, IsPermutation-trans, IsPermutation-reverse}
 use Rattle.indexmap.proofs.MapLemmas.{distinct_permutation}
 use Rattle.gor_model.specs.Objects.{Has}
-use Rattle.gor_model.specs.Shares.{Entry}
+use Rattle.gor_model.specs.Shares.{DirectoryEntry}
 use Rattle.gor_dir.specs.Pools.{is_apart}
 
-abbrev pub slots_of : List Entry → List ℕ
+abbrev pub slots_of : List DirectoryEntry → List ℕ
 slots_of rows = map (λ row. row.slot) rows
 
 pub differ : (a b : ℕ) → a ≢ b → nat_eq a b ≡ false
@@ -33,15 +33,15 @@ range_apart b zero = tt
 range_apart b (suc n) = (above b (b + 1) n (omega arith), range_apart (b + 1) n)
 
 -- a slot goes from the pool to the rows
-pub slots-push : (rows : List Entry) (row : Entry) (free : List ℕ) → slots_of (rows ++ row ∷ []) ++ free ≡ slots_of rows ++ row.slot ∷ free
-slots-push rows row free = ap (λ l. l ++ free) (map-append (λ (r : Entry). r.slot) rows (row ∷ [])) ∙ append_assoc (slots_of rows) (row.slot ∷ []) free
+pub slots-push : (rows : List DirectoryEntry) (row : DirectoryEntry) (free : List ℕ) → slots_of (rows ++ row ∷ []) ++ free ≡ slots_of rows ++ row.slot ∷ free
+slots-push rows row free = ap (λ l. l ++ free) (map-append (λ (r : DirectoryEntry). r.slot) rows (row ∷ [])) ∙ append_assoc (slots_of rows) (row.slot ∷ []) free
 
 -- and back
-pub slots-less : (old new : List Entry) (row : Entry) (free : List ℕ) → IsPermutation old (row ∷ new)
+pub slots-less : (old new : List DirectoryEntry) (row : DirectoryEntry) (free : List ℕ) → IsPermutation old (row ∷ new)
     → IsDistinct nat_eq (slots_of old ++ free) → IsDistinct nat_eq (slots_of new ++ row.slot ∷ free)
 slots-less old new row free moves apart = distinct_permutation nat_eq_equiv (slots_of old ++ free) (slots_of new ++ row.slot ∷ free) there apart where
   out : IsPermutation (slots_of old ++ free) (row.slot ∷ (slots_of new ++ free))
-  out = IsPermutation-append_left free (slots_of old) (slots_of (row ∷ new)) (IsPermutation-map (λ (r : Entry). r.slot) old (row ∷ new) moves)
+  out = IsPermutation-append_left free (slots_of old) (slots_of (row ∷ new)) (IsPermutation-map (λ (r : DirectoryEntry). r.slot) old (row ∷ new) moves)
 
   back : IsPermutation (row.slot ∷ (slots_of new ++ free)) (slots_of new ++ row.slot ∷ free)
   back = IsPermutation-sym (slots_of new ++ row.slot ∷ free) (row.slot ∷ (slots_of new ++ free)) (IsPermutation-middle (slots_of new) row.slot free)

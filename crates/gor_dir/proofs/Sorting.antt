@@ -10,21 +10,21 @@ use Rattle.std.proofs.lemmas.Bool.{eq-eqb}
 use Rattle.std.proofs.lemmas.List.Sorted.{IsPermutation-map}
 use Rattle.indexmap.proofs.MapLemmas.{distinct_permutation}
 use Rattle.gor_model.specs.Lists.{EachBefore}
-use Rattle.gor_model.specs.Shares.{Entry}
+use Rattle.gor_model.specs.Shares.{DirectoryEntry}
 use Rattle.gor_dir.specs.declared.row.DirRow.{DirRow}
-use Rattle.gor_dir.specs.Listings.{Listing, AreAll, keyed, row_under, row_shown, shown}
+use Rattle.gor_dir.specs.Listings.{Listing, AreAll, keyed, row_under, entry_shown, directory_shown}
 use Rattle.gor_dir.specs.Rows.{IsKept}
 use Rattle.gor_dir.proofs.RowLaws.{apart-permutation, row_under-permutation}
 use Rattle.gor_dir.proofs.SlotLists.{slots_of}
 
-abbrev shown_rows : List DirRow → List Entry
-shown_rows rows = map row_shown rows
+abbrev shown_rows : List DirRow → List DirectoryEntry
+shown_rows rows = map entry_shown rows
 
-pub all_sorted : (d : Listing) (rows sorted : List DirRow) → shown_rows rows ≡ d.rows → IsPermutation rows sorted → IsDistinct bytes_eq (keys_of (keyed d.rows)) → AreAll (shown d) (shown_rows sorted)
-unfolding shown
+pub all_sorted : (d : Listing) (rows sorted : List DirRow) → shown_rows rows ≡ d.rows → IsPermutation rows sorted → IsDistinct bytes_eq (keys_of (keyed d.rows)) → AreAll (directory_shown d) (shown_rows sorted)
+unfolding directory_shown
 all_sorted d rows sorted are moves apart = record {
-  apart = apart-permutation (shown_rows rows) (shown_rows sorted) (IsPermutation-map row_shown rows sorted moves) before;
-  all = λ q. row_under-permutation (shown_rows rows) (shown_rows sorted) (IsPermutation-map row_shown rows sorted moves) before q ∙ ap (λ r. row_under r q) are;
+  apart = apart-permutation (shown_rows rows) (shown_rows sorted) (IsPermutation-map entry_shown rows sorted moves) before;
+  all = λ q. row_under-permutation (shown_rows rows) (shown_rows sorted) (IsPermutation-map entry_shown rows sorted moves) before q ∙ ap (λ r. row_under r q) are;
 } where
   before : IsDistinct bytes_eq (keys_of (keyed (shown_rows rows)))
   before = subst (λ r. IsDistinct bytes_eq (keys_of (keyed r))) (sym are) apart
@@ -56,8 +56,8 @@ unfolding IsDistinct
 rising [] rises apart = tt
 rising (row ∷ rows) rises apart = (first_lowest row.slot rows (λ j d within. rises 0 (suc j) d (omega arith) (omega arith)) apart.0, rising rows (rest_rises row rows rises) apart.1)
 
-pub rising_rows : (kept : List Entry) (free : List ℕ) (capacity : ℕ) (rows sorted : List DirRow) → shown_rows rows ≡ kept → IsPermutation rows sorted → IsKept kept free capacity
+pub rising_rows : (kept : List DirectoryEntry) (free : List ℕ) (capacity : ℕ) (rows sorted : List DirRow) → shown_rows rows ≡ kept → IsPermutation rows sorted → IsKept kept free capacity
     → IsNonDecreasingBy (λ r. r.slot) sorted → EachBefore (λ p q. p.slot < q.slot) sorted
 rising_rows kept free capacity rows sorted are moves holds rises = rising sorted rises
-    (distinct_permutation nat_eq_equiv (slots_of (shown_rows rows)) (slots_of (shown_rows sorted)) (IsPermutation-map (λ (r : Entry). r.slot) (shown_rows rows) (shown_rows sorted) (IsPermutation-map row_shown rows sorted moves))
+    (distinct_permutation nat_eq_equiv (slots_of (shown_rows rows)) (slots_of (shown_rows sorted)) (IsPermutation-map (λ (r : DirectoryEntry). r.slot) (shown_rows rows) (shown_rows sorted) (IsPermutation-map entry_shown rows sorted moves))
     (subst (λ r. IsDistinct nat_eq (slots_of r)) (sym are) (front (slots_of kept) free holds.slots)))

@@ -13,22 +13,22 @@ use Rattle.std.proofs.lemmas.Bool.{cond_both}
 use Rattle.std.proofs.lemmas.Bool.Decides.{eqb_tells}
 use Rattle.gor_model.specs.Names.{key_of}
 use Rattle.gor_model.specs.Objects.{Has}
-use Rattle.gor_model.specs.Shares.{Entry, entry_of, DirectoryShare, directory_share}
+use Rattle.gor_model.specs.Shares.{DirectoryEntry, entry_of_row, DirectoryShare, directory_share}
 use Rattle.gor_model.specs.PlainMap.{grown_row, row_after, unused_slots}
 use Rattle.gor_model.specs.Starts.{row_in, AreApart}
 use Rattle.gor_model.proofs.SlotLaws.{bytes_tell}
 use Rattle.gor_model.specs.declared.start.Row.{Row}
 use Rattle.gor_model.specs.declared.start.Start.{Start}
 use Rattle.gor_model.specs.SharesAfter.{directory_raised}
-use Rattle.gor_dir.specs.Listings.{Listing, Stands, row_under, shown}
+use Rattle.gor_dir.specs.Listings.{Listing, ListingStands, row_under, directory_shown}
 use Rattle.gor_dir.specs.Pools.{is_apart}
 use Rattle.gor_dir.specs.Restores.{AddsRow, bare_start, directory_restored}
 
-entry_at : (row : Option Row) → option_map entry_of (option_map (grown_row [] []) (option_or row None)) ≡ option_map entry_of row
+entry_at : (row : Option Row) → option_map entry_of_row (option_map (grown_row [] []) (option_or row None)) ≡ option_map entry_of_row row
 entry_at None = refl
 entry_at (Some row) = refl
 
-starting : (start : Start) (q : List ℕ) → option_map entry_of (row_after start [] q) ≡ option_map entry_of (row_in start.rows q)
+starting : (start : Start) (q : List ℕ) → option_map entry_of_row (row_after start [] q) ≡ option_map entry_of_row (row_in start.rows q)
 starting start q = entry_at (row_in start.rows q)
 
 twice : (a b : Bool) (s : ℕ) (first : List ℕ) → cond (not (a || b)) (s ∷ first) first ≡ cond (not b) (cond (not a) (s ∷ first) first) first
@@ -51,14 +51,14 @@ module _ (before : Start) (row : Row) (after : Start) (adds : AddsRow before row
   found : (q : List ℕ) → row_in after.rows q ≡ (if bytes_eq q (key_of row.name) then Some row else row_in before.rows q)
   found q = lookup_permutation nat_list_eq_equiv ((key_of row.name, row) ∷ before.rows) after.rows adds.rows adds.apart (bytes_eq q) (nat_list_eq_equiv.congr q)
 
-  choose : (b : Bool) (other : Option Row) → option_map entry_of (if b then Some row else other) ≡ (if b then Some (entry_of row) else option_map entry_of other)
+  choose : (b : Bool) (other : Option Row) → option_map entry_of_row (if b then Some row else other) ≡ (if b then Some (entry_of_row row) else option_map entry_of_row other)
   choose true other = refl
   choose false other = refl
 
-  entries : (q : List ℕ) → option_map entry_of (row_after after [] q) ≡ (if bytes_eq q (key_of row.name) then Some (entry_of row) else option_map entry_of (row_after before [] q))
+  entries : (q : List ℕ) → option_map entry_of_row (row_after after [] q) ≡ (if bytes_eq q (key_of row.name) then Some (entry_of_row row) else option_map entry_of_row (row_after before [] q))
   entries q =
-      starting after q ∙ ap (option_map entry_of) (found q) ∙ choose (bytes_eq q (key_of row.name)) (row_in before.rows q)
-      ∙ ap (λ (o : Option Entry). if bytes_eq q (key_of row.name) then Some (entry_of row) else o) (sym (starting before q))
+      starting after q ∙ ap (option_map entry_of_row) (found q) ∙ choose (bytes_eq q (key_of row.name)) (row_in before.rows q)
+      ∙ ap (λ (o : Option DirectoryEntry). if bytes_eq q (key_of row.name) then Some (entry_of_row row) else o) (sym (starting before q))
 
   used : (s : ℕ) → list_any (λ r. nat_eq r.1.slot s) after.rows ≡ (nat_eq row.slot s || list_any (λ r. nat_eq r.1.slot s) before.rows)
   used s = sym (list_any-IsPermutation (λ r. nat_eq r.1.slot s) ((key_of row.name, row) ∷ before.rows) after.rows adds.rows)
@@ -83,18 +83,18 @@ pub bare_free : (slots : ℕ) → (directory_share (bare_start slots) []).free �
 unfolding unused_slots
 bare_free slots = filter-all (range_with_len 0 slots)
 
-pub shown-bare : (slots : ℕ) (rows : List Entry) (free : List ℕ) (spare : ℕ) → rows ≡ [] → free ≡ range_with_len 0 slots
-    → Stands (record { floor = 0; rows = rows; free = free; spare = spare }) (directory_share (bare_start slots) [])
-unfolding shown
+pub shown-bare : (slots : ℕ) (rows : List DirectoryEntry) (free : List ℕ) (spare : ℕ) → rows ≡ [] → free ≡ range_with_len 0 slots
+    → ListingStands (record { floor = 0; rows = rows; free = free; spare = spare }) (directory_share (bare_start slots) [])
+unfolding directory_shown
 shown-bare slots rows free spare none is = λ i. record { floor = 0; entry = λ q. ap (λ r. row_under r q) none i; free = (is ∙ sym (bare_free slots)) i }
 
 pub share-raised : (start : Start) (floor : ℕ) → directory_share (record start { floor = max start.floor floor }) [] ≡ directory_raised floor (directory_share start [])
 unfolding unused_slots
 share-raised start floor = refl
 
-pub adds-shown : (old new : Listing) (name : List ℕ) (slot uid : ℕ) → shown new ≡ directory_restored name slot uid (shown old)
+pub adds-shown : (old new : Listing) (name : List ℕ) (slot uid : ℕ) → directory_shown new ≡ directory_restored name slot uid (directory_shown old)
     → (before after : Start) (row : Row) → row.name ≡ name → row.slot ≡ slot → row.uid ≡ uid → AddsRow before row after
-    → Stands old (directory_share before []) → Stands new (directory_share after [])
+    → ListingStands old (directory_share before []) → ListingStands new (directory_share after [])
 adds-shown old new name slot uid restored before after row is_name is_slot is_uid adds stands =
     restored ∙ ap (directory_restored name slot uid) stands ∙ sym (λ i. directory_restored (is_name i) (is_slot i) (is_uid i) (directory_share before []))
     ∙ sym (share-adds before row after adds)
@@ -102,7 +102,7 @@ adds-shown old new name slot uid restored before after row is_name is_slot is_ui
 -- ---- what a start shows of a row that it has not
 
 pub absent_in_start : (start : Start) (key : List ℕ) → AllByRecursion (λ r. bytes_eq key r.0 ≡ false) start.rows → (directory_share start []).entry key ≡ None
-absent_in_start start key apart = starting start key ∙ ap (option_map entry_of) (none start.rows apart) where
+absent_in_start start key apart = starting start key ∙ ap (option_map entry_of_row) (none start.rows apart) where
   none : (rows : List (List ℕ × Row)) → AllByRecursion (λ r. bytes_eq key r.0 ≡ false) rows → row_in rows key ≡ None
   none [] apart = refl
   none (r ∷ rows) apart = let off : bytes_eq key r.0 ≡ false = apart.0 in rw off (none rows apart.1)
@@ -147,7 +147,7 @@ adds_last start row apart = record {
 
 -- ---- free slots of a directory without rows, and of one with a row more
 
-pub starts_free : (d : Listing) (slots slot : ℕ) → Stands d (directory_share (bare_start slots) []) → slot < slots → Has (shown d).free slot
+pub starts_free : (d : Listing) (slots slot : ℕ) → ListingStands d (directory_share (bare_start slots) []) → slot < slots → Has (directory_shown d).free slot
 starts_free d slots slot stands below = subst (λ (s : DirectoryShare). Has s.free slot) (sym stands) (free_in_start (bare_start slots) slot below tt)
 
 pub has_other : (free : List ℕ) (slot other : ℕ) → slot ≢ other → Has free slot → Has (filter (is_apart other) free) slot

@@ -10,7 +10,7 @@ use Rattle.gor_model.specs.Names.{key_of}
 use Rattle.gor_model.specs.PlainMap.{next_change}
 use Rattle.gor_model.specs.Shares.{directory_share}
 use Rattle.gor_model.specs.Starts.{IsStart}
-use Rattle.gor_dir.specs.Listings.{Listing, Stands}
+use Rattle.gor_dir.specs.Listings.{Listing, ListingStands}
 
 -- a stored put of this name, which begins a series of this uid where its key is absent
 pub record BeginsSeries (name : List ℕ) (uid : ℕ) (start : Start) (H : History) (e : Event) : Type 0 where
@@ -22,7 +22,7 @@ pub record BeginsSeries (name : List ℕ) (uid : ℕ) (start : Start) (H : Histo
   pub next : uid ≡ next_change start (changes H)
 
 -- a delete of this key, which found it
-pub record EndsSeries (key : List ℕ) (start : Start) (H : History) (e : Event) : Type 0 where
+pub record DeletesKey (key : List ℕ) (start : Start) (H : History) (e : Event) : Type 0 where
   pub call : e.call ≡ call.Del key
   pub reply : e.reply ≡ reply.Gone
 
@@ -33,6 +33,6 @@ pub record RaisesFloor (window : ℕ) (start : Start) (H : History) (e : Event) 
   pub reply : e.reply ≡ reply.Floor floor
 
 -- a directory that stood for the share of a history stands for that after one event more
-abbrev pub StandsAfter : Listing → Listing → (Start → History → Event → Type 0) → Type 0
-StandsAfter old new IsMadeFor = (start : Start) (H : History) (e : Event) → IsStart start → Legal start (e ∷ H) → IsMadeFor start H e
-    → Stands old (directory_share start H) → Stands new (directory_share start (e ∷ H))
+abbrev pub ListingStandsAfter : Listing → Listing → (Start → History → Event → Type 0) → Type 0
+ListingStandsAfter old new IsMadeFor = (start : Start) (H : History) (e : Event) → IsStart start → Legal start (e ∷ H) → IsMadeFor start H e
+    → ListingStands old (directory_share start H) → ListingStands new (directory_share start (e ∷ H))

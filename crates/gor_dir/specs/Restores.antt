@@ -10,7 +10,7 @@ use Rattle.gor_model.specs.declared.start.Row.{Row}
 use Rattle.gor_model.specs.declared.start.Start.{Start}
 use Rattle.gor_model.specs.Windows.{window_end}
 use Rattle.gor_dir.specs.Pools.{is_apart}
-use Rattle.gor_dir.specs.Listings.{Listing, Stands}
+use Rattle.gor_dir.specs.Listings.{Listing, ListingStands}
 
 -- a start with so many slots and no series
 abbrev pub bare_start : ℕ → Start
@@ -34,9 +34,9 @@ directory_restored name slot uid directory = record {
 -- from the directory of a start's first rows to that of the start with one row more, of this name, slot and uid
 abbrev pub RestoresSeries : List ℕ → ℕ → ℕ → Listing → Listing → Type 0
 RestoresSeries name slot uid old new = (before after : Start) (row : Row) → row.name ≡ name → row.slot ≡ slot → row.uid ≡ uid → AddsRow before row after
-    → Stands old (directory_share before []) → Stands new (directory_share after [])
+    → ListingStands old (directory_share before []) → ListingStands new (directory_share after [])
 
 -- from the directory of a start to that of the start with its floor raised to the end of a window
 abbrev pub RaisesStart : ℕ → Listing → Listing → Type 0
-RaisesStart window old new = (start : Start) → Stands old (directory_share start [])
-    → Stands new (directory_share (record start { floor = max start.floor (window_end window) }) [])
+RaisesStart window old new = (start : Start) → ListingStands old (directory_share start [])
+    → ListingStands new (directory_share (record start { floor = max start.floor (window_end window) }) [])

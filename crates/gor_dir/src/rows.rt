@@ -4,7 +4,7 @@ ghost use Rattle.std.specs.List.{IsDistinct};
 ghost use Rattle.std.specs.Map.{keys_of};
 ghost use Rattle.std.specs.Str.{bytes_eq};
 ghost use Rattle.gor_model.specs.Names.{key_of};
-ghost use Rattle.gor_dir.specs.Listings.{keyed, row_under, row_shown};
+ghost use Rattle.gor_dir.specs.Listings.{keyed, row_under, entry_shown};
 ghost use Rattle.gor_dir.specs.Rows.{LosesRow};
 
 use crate::row::DirRow;
@@ -33,13 +33,13 @@ impl Model for Rows {
     ghost use Rattle.std.specs.Str.{bytes_eq};
     ghost use Rattle.indexmap.specs.IndexMap.{spare};
     ghost use Rattle.gor_dir.specs.Listings.{keyed};
-    ghost use Rattle.gor_dir.specs.Rows.{KeptRows, row_of};
+    ghost use Rattle.gor_dir.specs.Rows.{KeptRows, directory_entry_of};
 
     ghost Value = { KeptRows };
 
-    ghost view = { λ r. record { rows = map row_of r.places.entries; spare = spare r.places } };
+    ghost view = { λ r. record { rows = map directory_entry_of r.places.entries; spare = spare r.places } };
 
-    ghost invariant = { λ r. IsDistinct bytes_eq (keys_of (keyed (map row_of r.places.entries))) };
+    ghost invariant = { λ r. IsDistinct bytes_eq (keys_of (keyed (map directory_entry_of r.places.entries))) };
 }
 
 impl Rows {
@@ -101,7 +101,7 @@ impl Rows {
 
     /// Copies of all rows.
     pub(crate) fn copies(&self, alloc: Global) -> Result<Vec<DirRow>, AllocError>
-        ensures all { IfOk result (λ rows. map row_shown rows.items ≡ self.now.rows) }
+        ensures all { IfOk result (λ rows. map entry_shown rows.items ≡ self.now.rows) }
         ensures apart { IsDistinct bytes_eq (keys_of (keyed self.now.rows)) }
     {
         let mut rows = Vec::with_capacity(alloc, self.places.len())?;

@@ -5,9 +5,9 @@ use Rattle.std.proofs.lemmas.List.{take_all, take-append-le}
 use Rattle.gor_disk.specs.declared.disk.FileId.{FileId}
 use Rattle.gor_disk.specs.declared.calls.DiskCall.{DiskCall}
 use Rattle.gor_disk.specs.declared.files.File.{File}
-use Rattle.gor_disk.specs.Disk.{Held, DiskView, Changes, Done, IsImage, Looks, Syncs, settled, held_now}
+use Rattle.gor_disk.specs.Disk.{HeldBytes, DiskView, Changes, DoneInFile, IsImage, Looks, Syncs, settled, held_now}
 use Rattle.gor_disk.specs.Names.{same_file}
-use Rattle.gor_disk.specs.Memory.{contents, effect, step, held_after, memory_view, IsLook}
+use Rattle.gor_disk.specs.Memory.{contents, effect, step_of_call, held_after, memory_view, IsLook}
 use Rattle.gor_disk.specs.declared.calls.DiskKind.{DiskKind}
 use Rattle.gor_disk.specs.declared.calls.DiskKind.TheVariants.{Len, Read, Write, Cut, Sync}
 use Rattle.gor_disk.proofs.StillImages.{settled_image}
@@ -16,14 +16,14 @@ use Rattle.gor_disk.proofs.Lookups.{same_is, same_refl, differs}
 abbrev Bytes : Type 0
 Bytes = Vec ℕ Global
 
-pub held_push : (f : FileId) (h : Held) (calls : List DiskCall) (kept : List Bytes) (call : DiskCall) (bytes : Bytes) → length calls ≡ length kept
-    → held_after f h (calls ++ call ∷ []) (kept ++ bytes ∷ []) ≡ step f call bytes.items (held_after f h calls kept)
+pub held_push : (f : FileId) (h : HeldBytes) (calls : List DiskCall) (kept : List Bytes) (call : DiskCall) (bytes : Bytes) → length calls ≡ length kept
+    → held_after f h (calls ++ call ∷ []) (kept ++ bytes ∷ []) ≡ step_of_call f call bytes.items (held_after f h calls kept)
 held_push f h [] [] call bytes same = refl
 held_push f h [] (b ∷ kept) call bytes same = absurd (omega arith)
 held_push f h (c ∷ calls) [] call bytes same = absurd (omega arith)
-held_push f h (c ∷ calls) (b ∷ kept) call bytes same = held_push f (step f c b.items h) calls kept call bytes (omega arith)
+held_push f h (c ∷ calls) (b ∷ kept) call bytes same = held_push f (step_of_call f c b.items h) calls kept call bytes (omega arith)
 
-pub no_change : (file : FileId) (after : Held) (v : DiskView) → Changes file after v v
+pub no_change : (file : FileId) (after : HeldBytes) (v : DiskView) → Changes file after v v
 no_change file after v = record {
   later = omega arith;
   past = λ t f low. refl;
@@ -39,7 +39,7 @@ module _ (first files new_files : List File) (calls : List DiskCall) (kept : Lis
   abbrev pub after : DiskView
   after = memory_view first new_files (calls ++ call ∷ []) (kept ++ bytes ∷ [])
 
-  abbrev pub effected : Held
+  abbrev pub effected : HeldBytes
   effected = effect call.kind call.failed call.at call.len bytes.items (held_now before call.file)
 
   more : length (calls ++ call ∷ []) ≡ length calls + 1
@@ -55,17 +55,17 @@ module _ (first files new_files : List File) (calls : List DiskCall) (kept : Lis
       ap (λ (l : List DiskCall). held_after f (settled (contents first f)) l kept) (sym (take_all (length calls) calls (omega arith)))
       ∙ ap (λ (l : List Bytes). held_after f (settled (contents first f)) (take (length calls) calls) l) (sym (take_all (length calls) kept (omega arith)))
 
-  last : (t : ℕ) (f : FileId) → length calls < t → after.held t f ≡ step f call bytes.items (held_now before f)
+  last : (t : ℕ) (f : FileId) → length calls < t → after.held t f ≡ step_of_call f call bytes.items (held_now before f)
   last t f late =
       ap (λ (l : List DiskCall). held_after f (settled (contents first f)) l (take t (kept ++ bytes ∷ []))) (take_all t (calls ++ call ∷ []) (omega (arith, more)))
       ∙ ap (λ (l : List Bytes). held_after f (settled (contents first f)) (calls ++ call ∷ []) l) (take_all t (kept ++ bytes ∷ []) (omega (arith, length-append kept (bytes ∷ []))))
       ∙ held_push f (settled (contents first f)) calls kept call bytes same
-      ∙ ap (λ (h : Held). step f call bytes.items h) (whole f)
+      ∙ ap (λ (h : HeldBytes). step_of_call f call bytes.items h) (whole f)
 
-  step_here : (h : Held) → step call.file call bytes.items h ≡ effect call.kind call.failed call.at call.len bytes.items h
+  step_here : (h : HeldBytes) → step_of_call call.file call bytes.items h ≡ effect call.kind call.failed call.at call.len bytes.items h
   step_here h = ap (λ (b : Bool). if b then effect call.kind call.failed call.at call.len bytes.items h else h) (same_refl call.file)
 
-  step_other : (f : FileId) → f ≢ call.file → (h : Held) → step f call bytes.items h ≡ h
+  step_other : (f : FileId) → f ≢ call.file → (h : HeldBytes) → step_of_call f call bytes.items h ≡ h
   step_other f apart h = ap (λ (b : Bool). if b then effect call.kind call.failed call.at call.len bytes.items h else h) (differs f call.file apart)
 
   -- the call touches its file alone
@@ -78,7 +78,7 @@ module _ (first files new_files : List File) (calls : List DiskCall) (kept : Lis
     other_bytes = others;
   }
 
-  pub is_done : (seen : List ℕ) → contents new_files call.file ≡ seen → Done call.file effected seen after
+  pub is_done : (seen : List ℕ) → contents new_files call.file ≡ seen → DoneInFile call.file effected seen after
   is_done seen is = record {
     held = last (length (calls ++ call ∷ [])) call.file (omega (arith, more)) ∙ step_here (held_now before call.file);
     seen = is;
@@ -109,16 +109,16 @@ module _ (first files new_files : List File) (calls new_calls : List DiskCall) (
   view_is : memory_view first new_files (calls ++ call ∷ []) (kept ++ bytes ∷ []) ≡ new_view
   view_is = λ i. memory_view first new_files (sym is.calls_are i) (sym is.kept_are i)
 
-  abbrev pub new_held : Held
+  abbrev pub new_held : HeldBytes
   new_held = effect call.kind call.failed call.at call.len bytes.items (held_now old_view call.file)
 
   pub noted_changes : ((f : FileId) → f ≢ call.file → contents new_files f ≡ contents files f) → Changes call.file new_held old_view new_view
   noted_changes others = subst (λ v. Changes call.file new_held old_view v) view_is (one_call first files new_files calls kept call bytes is.paired others)
 
-  pub noted_done : (seen : List ℕ) → contents new_files call.file ≡ seen → Done call.file new_held seen new_view
-  noted_done seen same = subst (λ v. Done call.file new_held seen v) view_is (is_done first files new_files calls kept call bytes is.paired seen same)
+  pub noted_done : (seen : List ℕ) → contents new_files call.file ≡ seen → DoneInFile call.file new_held seen new_view
+  noted_done seen same = subst (λ v. DoneInFile call.file new_held seen v) view_is (is_done first files new_files calls kept call bytes is.paired seen same)
 
-  pub noted_done_if : {T E : Type 0} (result : Result T E) (seen : List ℕ) → OnOk result (contents new_files call.file ≡ seen) → OnOk result (Done call.file new_held seen new_view)
+  pub noted_done_if : {T E : Type 0} (result : Result T E) (seen : List ℕ) → OnOk result (contents new_files call.file ≡ seen) → OnOk result (DoneInFile call.file new_held seen new_view)
   noted_done_if (Ok x) seen same = noted_done seen same
   noted_done_if (Err e) seen same = tt
 
@@ -143,7 +143,7 @@ module _ (first files new_files : List File) (calls new_calls : List DiskCall) (
           moves changes x apart = changes.others new_view.moment x apart (omega (arith, ap length is.calls_are, length-append calls (call ∷ []))) (omega arith)
 
 -- a call that touches no file does nothing
-looks_nothing : (kind : DiskKind) → IsLook kind → (failed : Bool) (at n : ℕ) (bytes : List ℕ) (h : Held) → effect kind failed at n bytes h ≡ h
+looks_nothing : (kind : DiskKind) → IsLook kind → (failed : Bool) (at n : ℕ) (bytes : List ℕ) (h : HeldBytes) → effect kind failed at n bytes h ≡ h
 looks_nothing Len look failed at n bytes h = refl
 looks_nothing Read look failed at n bytes h = refl
 looks_nothing Write look failed at n bytes h = absurd look
@@ -157,14 +157,14 @@ module _ (first files : List File) (calls new_calls : List DiskCall) (kept new_k
   abbrev now : DiskView
   now = memory_view first files new_calls new_kept
 
-  abbrev effect_is : Held
+  abbrev effect_is : HeldBytes
   effect_is = effect call.kind call.failed call.at call.len bytes.items (held_now was call.file)
 
-  changes_to : (after : Held) → effect_is ≡ after → Changes call.file after was now
+  changes_to : (after : HeldBytes) → effect_is ≡ after → Changes call.file after was now
   changes_to after same = subst (λ h. Changes call.file h was now) same (noted_changes first files files calls new_calls kept new_kept call bytes is (λ f apart. refl))
 
-  done_to : (after : Held) → effect_is ≡ after → Done call.file after (contents files call.file) now
-  done_to after same = subst (λ h. Done call.file h (contents files call.file) now) same (noted_done first files files calls new_calls kept new_kept call bytes is (contents files call.file) refl)
+  done_to : (after : HeldBytes) → effect_is ≡ after → DoneInFile call.file after (contents files call.file) now
+  done_to after same = subst (λ h. DoneInFile call.file h (contents files call.file) now) same (noted_done first files files calls new_calls kept new_kept call bytes is (contents files call.file) refl)
 
   image_to : ((f : FileId) → IsImage (held_now was f) (contents files f)) → IsImage effect_is (contents files call.file) → (f : FileId) → IsImage (held_now now f) (contents files f)
   image_to images here = noted_image first files files calls new_calls kept new_kept call bytes is images (λ f apart. refl) here

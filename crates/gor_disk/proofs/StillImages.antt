@@ -1,7 +1,7 @@
 -- What a read gives stays an image.
 use Rattle.std.proofs.Common.{◌≡◌, ◌⊎◌, ⊎_elim, ℕ, zero, suc, ◌+◌, ◌-◌, ◌<◌, ◌≤◌, ◌^◌, max, List, [], ◌∷◌, ◌++◌, length, take, drop, get_or, slice_index, refl, sym, ◌∙◌, ap, subst, arith, length-append, length-take, length-drop, Result, Ok, Err, OnOk, OnErr}
 use Rattle.std.proofs.lemmas.List.{get_or_append_left, get_or-append_right, get_or-take, get_or-drop}
-use Rattle.gor_disk.specs.Disk.{Held, IsImage, IsOutside, settled, wrote, shortened, overwritten}
+use Rattle.gor_disk.specs.Disk.{HeldBytes, IsImage, IsOutside, settled, wrote, shortened, overwritten}
 
 outside_front : (i : ℕ) (ranges : List (ℕ × ℕ)) (range : ℕ × ℕ) → IsOutside i (ranges ++ range ∷ []) → IsOutside i ranges × ((i < range.0) ⊎ (range.0 + range.1 ≤ i))
 outside_front i [] range out = (tt, out.0)
@@ -10,7 +10,7 @@ outside_front i (r ∷ ranges) range out = let rest = outside_front i ranges ran
 pub settled_image : (s : List ℕ) → length s < 2 ^ 63 → ((i : ℕ) → slice_index s i < 2 ^ 8) → IsImage (settled s) s
 settled_image s fits each = record { no_shorter = omega arith; no_longer = omega arith; fits = fits; each = each; kept = λ i low out. refl }
 
-pub wrote_failed : (held : Held) (s : List ℕ) (at n : ℕ) → IsImage held s → IsImage (wrote at n held) s
+pub wrote_failed : (held : HeldBytes) (s : List ℕ) (at n : ℕ) → IsImage held s → IsImage (wrote at n held) s
 wrote_failed held s at n image = record {
   no_shorter = image.no_shorter;
   no_longer = omega (arith, image.no_longer);
@@ -37,7 +37,7 @@ overwritten_above at bytes s i within high =
     ∙ get_or-drop (at + length bytes) s (i - (at + length bytes)) 0
     ∙ ap (λ (k : ℕ). get_or s k 0) there
 
-pub wrote_done : (held : Held) (s new bytes : List ℕ) (at : ℕ) → IsImage held s → at ≤ length s → new ≡ overwritten at bytes s → length new < 2 ^ 63 → ((i : ℕ) → slice_index new i < 2 ^ 8) → IsImage (wrote at (length bytes) held) new
+pub wrote_done : (held : HeldBytes) (s new bytes : List ℕ) (at : ℕ) → IsImage held s → at ≤ length s → new ≡ overwritten at bytes s → length new < 2 ^ 63 → ((i : ℕ) → slice_index new i < 2 ^ 8) → IsImage (wrote at (length bytes) held) new
 wrote_done held s new bytes at image within is fits each = record {
   no_shorter = omega (arith, ap length is, length-overwritten at bytes s within, image.no_shorter);
   no_longer = omega (arith, ap length is, length-overwritten at bytes s within, image.no_longer);
@@ -50,7 +50,7 @@ wrote_done held s new bytes at image within is fits each = record {
       ∙ image.kept i low both.0;
 }
 
-pub cut_failed : (held : Held) (s : List ℕ) (n : ℕ) → IsImage held s → IsImage (shortened n held) s
+pub cut_failed : (held : HeldBytes) (s : List ℕ) (n : ℕ) → IsImage held s → IsImage (shortened n held) s
 cut_failed held s n image = record {
   no_shorter = omega (arith, image.no_shorter);
   no_longer = image.no_longer;
@@ -59,7 +59,7 @@ cut_failed held s n image = record {
   kept = λ i low out. image.kept i (omega arith) out;
 }
 
-pub cut_done : (held : Held) (s new : List ℕ) (n : ℕ) → IsImage held s → n ≤ length s → new ≡ take n s → ((i : ℕ) → slice_index new i < 2 ^ 8) → IsImage (shortened n held) new
+pub cut_done : (held : HeldBytes) (s new : List ℕ) (n : ℕ) → IsImage held s → n ≤ length s → new ≡ take n s → ((i : ℕ) → slice_index new i < 2 ^ 8) → IsImage (shortened n held) new
 cut_done held s new n image within is each =
     let long : length new ≡ n = ap length is ∙ length-take n s ∙ omega arith in
     record {
@@ -89,19 +89,19 @@ small_drop zero s all i = all i
 small_drop (suc n) [] all i = omega arith
 small_drop (suc n) (x ∷ s) all i = small_drop n s (λ k. all (suc k)) i
 
-pub wrote_if : {T E : Type 0} (result : Result T E) (held : Held) (s new bytes : List ℕ) (at : ℕ) → IsImage held s → at ≤ length s
+pub wrote_if : {T E : Type 0} (result : Result T E) (held : HeldBytes) (s new bytes : List ℕ) (at : ℕ) → IsImage held s → at ≤ length s
     → OnOk result (new ≡ overwritten at bytes s) → OnOk result (at + length bytes < 2 ^ 63) → OnErr result (new ≡ s) → AreSmall bytes → IsImage (wrote at (length bytes) held) new
 wrote_if (Ok x) held s new bytes at image within is fits same small =
     wrote_done held s new bytes at image within is (omega (arith, ap length is, length-overwritten at bytes s within, image.fits, fits))
     (subst AreSmall (sym is) (small_append (take at s ++ bytes) (drop (at + length bytes) s) (small_append (take at s) bytes (small_take at s image.each) small) (small_drop (at + length bytes) s image.each)))
 wrote_if (Err e) held s new bytes at image within is fits same small = subst (IsImage (wrote at (length bytes) held)) (sym same) (wrote_failed held s at (length bytes) image)
 
-pub cut_if : {T E : Type 0} (result : Result T E) (held : Held) (s new : List ℕ) (n : ℕ) → IsImage held s → n ≤ length s → OnOk result (new ≡ take n s) → OnErr result (new ≡ s) → IsImage (shortened n held) new
+pub cut_if : {T E : Type 0} (result : Result T E) (held : HeldBytes) (s new : List ℕ) (n : ℕ) → IsImage held s → n ≤ length s → OnOk result (new ≡ take n s) → OnErr result (new ≡ s) → IsImage (shortened n held) new
 cut_if (Ok x) held s new n image within is same = cut_done held s new n image within is (subst AreSmall (sym is) (small_take n s image.each))
 cut_if (Err e) held s new n image within is same = subst (IsImage (shortened n held)) (sym same) (cut_failed held s n image)
 
 -- a write of which some bytes arrived, from its place on
-pub torn_done : (held : Held) (s new bytes : List ℕ) (at n : ℕ) → IsImage held s → at ≤ length s → new ≡ overwritten at bytes s → length new < 2 ^ 63 → AreSmall bytes → length bytes ≤ n → IsImage (wrote at n held) new
+pub torn_done : (held : HeldBytes) (s new bytes : List ℕ) (at n : ℕ) → IsImage held s → at ≤ length s → new ≡ overwritten at bytes s → length new < 2 ^ 63 → AreSmall bytes → length bytes ≤ n → IsImage (wrote at n held) new
 torn_done held s new bytes at n image within is fits small fewer = record {
   no_shorter = omega (arith, ap length is, length-overwritten at bytes s within, image.no_shorter);
   no_longer = omega (arith, ap length is, length-overwritten at bytes s within, image.no_longer);

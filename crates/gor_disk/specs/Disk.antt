@@ -4,22 +4,22 @@ use Rattle.gor_disk.specs.declared.disk.FileId.{FileId}
 
 -- One file as a crash sees it: its stable bytes, the least and the greatest length that it had since then, and
 -- the ranges that were written since then, each by its place and its count.
-pub record Held : Type 0 where
+pub record HeldBytes : Type 0 where
   pub stable : List ℕ
   pub least : ℕ
   pub most : ℕ
   pub ranges : List (ℕ × ℕ)
 
 -- nothing is pending
-abbrev pub settled : List ℕ → Held
+abbrev pub settled : List ℕ → HeldBytes
 settled bytes = record { stable = bytes; least = length bytes; most = length bytes; ranges = [] }
 
 -- after a write of n bytes at this place, also one that failed
-abbrev pub wrote : ℕ → ℕ → Held → Held
+abbrev pub wrote : ℕ → ℕ → HeldBytes → HeldBytes
 wrote at n held = record { stable = held.stable; least = held.least; most = max held.most (at + n); ranges = held.ranges ++ (at, n) ∷ [] }
 
 -- after a cut to n bytes, also one that failed
-abbrev pub shortened : ℕ → Held → Held
+abbrev pub shortened : ℕ → HeldBytes → HeldBytes
 shortened n held = record { stable = held.stable; least = min held.least n; most = held.most; ranges = held.ranges }
 
 -- the byte at i lies in no written range
@@ -28,7 +28,7 @@ IsOutside i [] = Unit {0}
 IsOutside i (range ∷ ranges) = ((i < range.0) ⊎ (range.0 + range.1 ≤ i)) × IsOutside i ranges
 
 -- a crash may leave these bytes
-pub record IsImage (held : Held) (bytes : List ℕ) : Type 0 where
+pub record IsImage (held : HeldBytes) (bytes : List ℕ) : Type 0 where
   pub no_shorter : held.least ≤ length bytes
   pub no_longer : length bytes ≤ held.most
   pub fits : length bytes < 2 ^ 63
@@ -43,9 +43,9 @@ Contents = FileId → List ℕ
 pub record DiskView : Type 0 where
   pub seen : Contents
   pub moment : ℕ
-  pub held : ℕ → FileId → Held
+  pub held : ℕ → FileId → HeldBytes
 
-abbrev pub held_now : DiskView → FileId → Held
+abbrev pub held_now : DiskView → FileId → HeldBytes
 held_now disk file = disk.held disk.moment file
 
 -- what a crash at this moment may leave of the whole disk: of each file by itself
@@ -69,7 +69,7 @@ abbrev pub NothingPending : DiskView → Type 0
 NothingPending disk = (file : FileId) → IsSettled disk file
 
 -- From old to new, this file alone is touched. At each moment of it, a crash sees the file as `after`.
-pub record Changes (file : FileId) (after : Held) (old new : DiskView) : Type 0 where
+pub record Changes (file : FileId) (after : HeldBytes) (old new : DiskView) : Type 0 where
   pub later : old.moment ≤ new.moment
   -- what was, was
   pub past : (t : ℕ) (f : FileId) → t ≤ old.moment → new.held t f ≡ old.held t f
@@ -78,24 +78,24 @@ pub record Changes (file : FileId) (after : Held) (old new : DiskView) : Type 0 
   pub other_bytes : (f : FileId) → f ≢ file → new.seen f ≡ old.seen f
 
 -- and it is done: now a crash sees the file as `after`, and a read as `bytes`
-pub record Done (file : FileId) (after : Held) (bytes : List ℕ) (new : DiskView) : Type 0 where
+pub record DoneInFile (file : FileId) (after : HeldBytes) (bytes : List ℕ) (new : DiskView) : Type 0 where
   pub held : held_now new file ≡ after
   pub seen : new.seen file ≡ bytes
 
 -- A call that touches this file alone. One that failed may have been made, and says nothing of the bytes.
-pub record Makes {T E : Type 0} (result : Result T E) (file : FileId) (after : Held) (bytes : List ℕ) (old new : DiskView) : Type 0 where
+pub record MakesChange {T E : Type 0} (result : Result T E) (file : FileId) (after : HeldBytes) (bytes : List ℕ) (old new : DiskView) : Type 0 where
   pub changes : Changes file after old new
-  pub done : OnOk result (Done file after bytes new)
+  pub done : OnOk result (DoneInFile file after bytes new)
 
 -- a call that changes nothing, whether it failed or not
 pub record Looks (file : FileId) (old new : DiskView) : Type 0 where
   pub changes : Changes file (held_now old file) old new
-  pub done : Done file (held_now old file) (old.seen file) new
+  pub done : DoneInFile file (held_now old file) (old.seen file) new
 
 -- a sync: one that failed makes nothing stable
 abbrev pub Syncs : {T E : Type 0} → Result T E → FileId → DiskView → DiskView → Type 0
 Syncs result file old new = MatchResult result
-    (λ _. Changes file (settled (old.seen file)) old new × Done file (settled (old.seen file)) (old.seen file) new)
+    (λ _. Changes file (settled (old.seen file)) old new × DoneInFile file (settled (old.seen file)) (old.seen file) new)
     (λ _. Looks file old new)
 
 -- the clock counts on in a call that is made
@@ -115,7 +115,7 @@ abbrev pub CountsFault : {T E : Type 0} → Result T E → ℕ → ℕ → Type 
 CountsFault result old new = MatchResult result (λ _. new ≡ old) (λ _. Rose old new)
 
 -- From old to new this file alone is touched, and at each moment of it a crash leaves of the file what has P.
-pub record Touches (file : FileId) (P : List ℕ → Type 0) (old new : DiskView) : Type 0 where
+pub record TouchesFile (file : FileId) (P : List ℕ → Type 0) (old new : DiskView) : Type 0 where
   pub later : old.moment ≤ new.moment
   pub past : (t : ℕ) (f : FileId) → t ≤ old.moment → new.held t f ≡ old.held t f
   pub within : (t : ℕ) (c : List ℕ) → old.moment < t → t ≤ new.moment → IsImage (new.held t file) c → P c

@@ -7,7 +7,7 @@ use Rattle.gor_disk.specs.declared.calls.DiskCall.{DiskCall}
 use Rattle.gor_disk.specs.declared.calls.DiskKind.{DiskKind}
 use Rattle.gor_disk.specs.declared.calls.DiskKind.TheVariants.{Len, Read, Write, Cut, Sync}
 use Rattle.gor_disk.specs.declared.files.File.{File}
-use Rattle.gor_disk.specs.Disk.{Held, DiskView, IsImage, settled, wrote, shortened}
+use Rattle.gor_disk.specs.Disk.{HeldBytes, DiskView, IsImage, settled, wrote, shortened}
 use Rattle.gor_disk.specs.Names.{same_file}
 
 -- the bytes of a file; one that isn't there is empty
@@ -22,7 +22,7 @@ place (file ∷ files) name = if same_file name file.name then 0 else suc (place
 
 -- What a call does to its file, as a crash sees it: a write or a cut that failed does as much as one that was made, and a
 -- sync that failed does nothing.
-abbrev pub effect : DiskKind → Bool → ℕ → ℕ → List ℕ → Held → Held
+abbrev pub effect : DiskKind → Bool → ℕ → ℕ → List ℕ → HeldBytes → HeldBytes
 effect Len failed at n bytes held = held
 effect Read failed at n bytes held = held
 effect Write failed at n bytes held = wrote at n held
@@ -31,20 +31,20 @@ effect Sync failed at n bytes held = if failed then held else settled bytes
 
 -- a file that a crash could leave before a call, and one that it can leave after it
 abbrev pub LeavesImage : DiskCall → List ℕ → List ℕ → List ℕ → Type 0
-LeavesImage call given old new = (held : Held) → IsImage held old → IsImage (effect call.kind call.failed call.at call.len given held) new
+LeavesImage call given old new = (held : HeldBytes) → IsImage held old → IsImage (effect call.kind call.failed call.at call.len given held) new
 
 -- the stable bytes of a file before a call, and those after it
 abbrev pub LeavesStable : DiskCall → List ℕ → List ℕ → List ℕ → Type 0
-LeavesStable call given old new = (held : Held) → old ≡ held.stable → new ≡ (effect call.kind call.failed call.at call.len given held).stable
+LeavesStable call given old new = (held : HeldBytes) → old ≡ held.stable → new ≡ (effect call.kind call.failed call.at call.len given held).stable
 
-abbrev pub step : FileId → DiskCall → List ℕ → Held → Held
-step file call bytes held = if same_file file call.file then effect call.kind call.failed call.at call.len bytes held else held
+abbrev pub step_of_call : FileId → DiskCall → List ℕ → HeldBytes → HeldBytes
+step_of_call file call bytes held = if same_file file call.file then effect call.kind call.failed call.at call.len bytes held else held
 
 -- a file after these calls
-abbrev pub held_after : FileId → Held → List DiskCall → List (Vec ℕ Global) → Held
+abbrev pub held_after : FileId → HeldBytes → List DiskCall → List (Vec ℕ Global) → HeldBytes
 held_after file held [] stable = held
 held_after file held (call ∷ calls) [] = held
-held_after file held (call ∷ calls) (bytes ∷ stable) = held_after file (step file call bytes.items held) calls stable
+held_after file held (call ∷ calls) (bytes ∷ stable) = held_after file (step_of_call file call bytes.items held) calls stable
 
 -- a call that touches no file
 abbrev pub IsLook : DiskKind → Type 0

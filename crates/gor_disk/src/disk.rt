@@ -1,6 +1,6 @@
 //! The trait, with the model of a disk in its clauses.
 ghost use Rattle.std.specs.Prelude.{◌≡◌, ◌+◌, ◌^◌, ◌<◌, ◌≤◌, ℕ, Bool, IsTrue, List, length, take, drop, IfOk, OnOk};
-ghost use Rattle.gor_disk.specs.Disk.{DiskView, IsImage, held_now, wrote, shortened, overwritten, Makes, Looks, Syncs, CountsOn, CountsFault};
+ghost use Rattle.gor_disk.specs.Disk.{DiskView, IsImage, held_now, wrote, shortened, overwritten, MakesChange, Looks, Syncs, CountsOn, CountsFault};
 ghost use Rattle.gor_disk.specs.declared.disk.FileId.{FileId as Name};
 
 use thiserror::Error;
@@ -69,7 +69,7 @@ pub trait Disk: Drop {
     fn write_at(&mut self, file: FileId, at: u64, bytes: &[u8]) -> Result<(), DiskFailed>
         requires { IsTrue tells → at ≤ length ((view self.old).seen file) }
         ensures fits { OnOk result (at + length bytes.now < 2 ^ 63) }
-        ensures written { IsTrue tells → Makes result file (wrote at (length bytes.now) (held_now (view self.old) file))
+        ensures written { IsTrue tells → MakesChange result file (wrote at (length bytes.now) (held_now (view self.old) file))
             (overwritten at bytes.now ((view self.old).seen file)) (view self.old) (view self.new) }
         ensures clock { IsTrue tells → CountsOn result (view self.old) (view self.new) }
         ensures cause { CountsFault result (faults self.old) (faults self.new) };
@@ -77,7 +77,7 @@ pub trait Disk: Drop {
     /// Cuts a file to a length, in bytes, that is at most its own. The cut is not stable before a sync.
     fn cut(&mut self, file: FileId, len: u64) -> Result<(), DiskFailed>
         requires { IsTrue tells → len ≤ length ((view self.old).seen file) }
-        ensures cut { IsTrue tells → Makes result file (shortened len (held_now (view self.old) file))
+        ensures cut { IsTrue tells → MakesChange result file (shortened len (held_now (view self.old) file))
             (take len ((view self.old).seen file)) (view self.old) (view self.new) }
         ensures clock { IsTrue tells → CountsOn result (view self.old) (view self.new) }
         ensures cause { CountsFault result (faults self.old) (faults self.new) };

@@ -1,7 +1,7 @@
 //! What a crash may leave of files in memory.
 ghost use Rattle.std.specs.Prelude.{◌≡◌, ◌≢◌, ℕ, ◌+◌, ◌^◌, ◌<◌, ◌≤◌, length, slice_index, IfOk, OnOk};
 ghost use Rattle.gor_disk.specs.Memory.{contents, held_after, LeavesImage, LeavesStable};
-ghost use Rattle.gor_disk.specs.Disk.{Held, IsImage, settled, shortened, wrote};
+ghost use Rattle.gor_disk.specs.Disk.{HeldBytes, IsImage, settled, shortened, wrote};
 ghost use Rattle.gor_disk.specs.declared.disk.FileId.{FileId as Name};
 
 use crate::editing::spliced;
@@ -45,7 +45,7 @@ fn torn_write(
     given: &[u8],
     tear: Tear,
 ) -> Result<Vec<u8>, AllocError>
-    ensures image { IfOk result (λ next. (held : Held) → IsImage held old.now → IsImage (wrote at len held) next.items) }
+    ensures image { IfOk result (λ next. (held : HeldBytes) → IsImage held old.now → IsImage (wrote at len held) next.items) }
     ensures stable { tear ≡ Tear.Nothing → IfOk result (λ next. next.items ≡ old.now) }
 {
     if tear == Tear::Nothing || at > old.len() as u64 || given.len() as u64 > len {
@@ -72,7 +72,7 @@ fn remains(alloc: Global, gone: &[u8], tear: Tear) -> Result<Vec<u8>, AllocError
 
 // A cut, as it was torn.
 fn torn_cut(alloc: Global, old: &[u8], len: u64, tear: Tear) -> Result<Vec<u8>, AllocError>
-    ensures image { IfOk result (λ next. (held : Held) → IsImage held old.now → IsImage (shortened len held) next.items) }
+    ensures image { IfOk result (λ next. (held : HeldBytes) → IsImage held old.now → IsImage (shortened len held) next.items) }
     ensures stable { tear ≡ Tear.Nothing → IfOk result (λ next. next.items ≡ old.now) }
 {
     if tear == Tear::Nothing || len > old.len() as u64 {

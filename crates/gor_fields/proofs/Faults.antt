@@ -5,9 +5,9 @@ use Rattle.gor_model.specs.Fields.{Reader, each_of, with_front}
 use Rattle.gor_model.proofs.FieldLaws.{each_fails}
 use Rattle.gor_fields.specs.declared.field_fault.FieldFault.{FieldFault}
 use Rattle.gor_fields.specs.declared.field_fault.FieldFault.TheVariants as fault
-use Rattle.gor_fields.specs.Readings.{Fails}
+use Rattle.gor_fields.specs.Readings.{MeetsFault}
 
-pub ends : {X : Type 0} (read : Reader X) (e : FieldFault) (at : ℕ) (bytes : List ℕ) (front : List X) (total : Result (List X) Misread) → 1 ≤ length bytes → Fails e (read at bytes)
-    → with_front front (each_of read at bytes) ≡ total → Fails e total
+pub ends : {X : Type 0} (read : Reader X) (e : FieldFault) (at : ℕ) (bytes : List ℕ) (front : List X) (total : Result (List X) Misread) → 1 ≤ length bytes → MeetsFault e (read at bytes)
+    → with_front front (each_of read at bytes) ≡ total → MeetsFault e total
 ends read (fault.Wrong p kind) at bytes front total some h so_far = each_fails read at bytes (record { at = p; kind = kind }) front total some h so_far
 ends read fault.NoMemory at bytes front total some h so_far = tt

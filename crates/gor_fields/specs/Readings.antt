@@ -6,11 +6,11 @@ use Rattle.gor_fields.specs.declared.field_fault.FieldFault.{FieldFault}
 use Rattle.gor_fields.specs.declared.field_fault.FieldFault.TheVariants as fault
 
 -- the fault that a reader told is the one that reading meets
-abbrev pub Fails : {Y : Type 0} → FieldFault → Result Y Misread → Type 0
-Fails (fault.Wrong at kind) read = read ≡ wrong at kind
-Fails fault.NoMemory read = Unit {0}
+abbrev pub MeetsFault : {Y : Type 0} → FieldFault → Result Y Misread → Type 0
+MeetsFault (fault.Wrong at kind) read = read ≡ wrong at kind
+MeetsFault fault.NoMemory read = Unit {0}
 
 -- what a reader returned, seen so, is what reading gives
-abbrev pub Gives : {X Y : Type 0} → (X → Y) → Result X FieldFault → Result Y Misread → Type 0
-Gives view (Ok x) read = read ≡ Ok (view x)
-Gives view (Err e) read = Fails e read
+abbrev pub GivesRead : {X Y : Type 0} → (X → Y) → Result X FieldFault → Result Y Misread → Type 0
+GivesRead view (Ok x) read = read ≡ Ok (view x)
+GivesRead view (Err e) read = MeetsFault e read

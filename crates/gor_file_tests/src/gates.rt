@@ -3,7 +3,7 @@ ghost use Rattle.std.specs.Prelude.{◌≡◌, IsTrue, IfOk, IfSome};
 ghost use Rattle.gor_disk.specs.Disk.{IsSettled};
 ghost use Rattle.gor_disk.specs.declared.disk.FileId.TheVariants.{Keys, Log};
 ghost use Rattle.gor_gate.specs.Places.{IsEnsured};
-ghost use Rattle.gor_file_tests.specs.Opened.{IsOpened};
+ghost use Rattle.gor_file_tests.specs.Opened.{FileIsOpened};
 
 use crate::pairs::append_both;
 use gor_disk::{Disk, DiskCall, DiskFailed, DiskKind, FileId, MemoryDisk};
@@ -148,7 +148,7 @@ fn framed(alloc: Global, body: &[u8]) -> Result<Frame, AllocError>
 fn opened<D: Disk>(alloc: Global, disk: &mut D, file: FileId) -> Option<Gated>
     requires { IsTrue D.tells → IsSettled (D.view disk.old) file }
     ensures file { IfSome result (λ gated. gated.file ≡ file) }
-    ensures opened { IsTrue D.tells → IfSome result (λ gated. IsOpened file gated (D.view disk.old) (D.view disk.new)) }
+    ensures opened { IsTrue D.tells → IfSome result (λ gated. FileIsOpened file gated (D.view disk.old) (D.view disk.new)) }
 {
     let Ok((mut gated, bodies)) = read_all(alloc, disk, file) else {
         return None;

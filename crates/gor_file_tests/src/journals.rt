@@ -1,5 +1,5 @@
 //! The journal: changes of each kind are written and taken, batch by batch, and a stop stands.
-ghost use Rattle.gor_journal.specs.Entries.{InLimits};
+ghost use Rattle.gor_journal.specs.Entries.{EntryInLimits};
 
 use crate::logs::is_read;
 use crate::names::name_of;
@@ -28,7 +28,7 @@ const BEGUN_AND_ENDED: [u8; 41] = [
 
 /// Adds a change where the journal may have one more, and whether it got this number.
 fn add(journal: &mut Journal, entry: &Entry, number: u64) -> Result<bool, AllocError>
-    requires { InLimits entry.now }
+    requires { EntryInLimits entry.now }
 {
     journal.reserve(entry)?;
     if journal.stopped() || journal.next() > 1 << 62 || journal.buffered() > 1 << 49 {

@@ -2,7 +2,7 @@
 ghost use Rattle.std.specs.Prelude.{IfOk};
 ghost use Rattle.std.specs.List.{AllByRecursion};
 ghost use Rattle.gor_model.specs.declared.unit.Unit.TheVariants.{Second};
-ghost use Rattle.gor_keys.specs.Spelling.{InLimits};
+ghost use Rattle.gor_keys.specs.Spelling.{KeyRecordInLimits};
 
 use crate::names::name_of;
 use gor_keys::{KeyFault, KeyRecord, read_keys, write_keys};
@@ -103,7 +103,7 @@ fn is_written(
     records: &[KeyRecord],
     want: &[u8],
 ) -> Result<bool, AllocError>
-    requires { AllByRecursion (InLimits unit) records.now }
+    requires { AllByRecursion (KeyRecordInLimits unit) records.now }
 {
     let mut out = Vec::new(alloc);
     write_keys(unit, records, &mut out)?;
@@ -288,7 +288,7 @@ fn millis_have_their_limits(rt: HostRuntime) -> Result<(), Fail> {
 
 /// A Create of one of two names, or a Delete, in turn.
 fn entry_at(alloc: Global, index: u16) -> Result<KeyRecord, AllocError>
-    ensures { IfOk result (λ found. InLimits Second found) }
+    ensures { IfOk result (λ found. KeyRecordInLimits Second found) }
 {
     let number = u64::from(index) + 1;
     let slot = u32::from(index) % 16_384;
@@ -305,7 +305,7 @@ fn entry_at(alloc: Global, index: u16) -> Result<KeyRecord, AllocError>
 }
 
 fn many(alloc: Global, count: u16) -> Result<Vec<KeyRecord>, AllocError>
-    ensures { IfOk result (λ records. AllByRecursion (InLimits Second) records.items) }
+    ensures { IfOk result (λ records. AllByRecursion (KeyRecordInLimits Second) records.items) }
 {
     let mut records = Vec::new(alloc);
     for index in 0..count {

@@ -1,7 +1,7 @@
 //! Logs: batches are written and read, and each fault has its place.
 ghost use Rattle.std.specs.Prelude.{IfOk};
 ghost use Rattle.std.specs.List.{AllByRecursion};
-ghost use Rattle.gor_log.specs.Spelling.{IsRecord};
+ghost use Rattle.gor_log.specs.Spelling.{IsLogRecord};
 
 use gor_log::{LogBatch, LogFault, LogRecord, read_log, write_log};
 use gor_model::Wrong;
@@ -192,7 +192,7 @@ fn one_byte_of_a_put_is_another(rt: HostRuntime) -> Result<(), Fail> {
 
 /// A Put, a Floor or a Seal, in turn.
 fn record_at(index: u16) -> LogRecord
-    ensures { IsRecord result }
+    ensures { IsLogRecord result }
 {
     let uid = u64::from(index) + 1;
     let window = u32::from(index);
@@ -208,7 +208,7 @@ fn record_at(index: u16) -> LogRecord
 }
 
 fn many(alloc: Global, count: u16) -> Result<Vec<LogRecord>, AllocError>
-    ensures { IfOk result (λ records. AllByRecursion IsRecord records.items) }
+    ensures { IfOk result (λ records. AllByRecursion IsLogRecord records.items) }
 {
     let mut records = Vec::new(alloc);
     for index in 0..count {

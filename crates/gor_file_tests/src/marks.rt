@@ -1,5 +1,5 @@
 //! Marks: each kind is written and read, and each fault has its place.
-ghost use Rattle.gor_marks.specs.Spelling.{InLimits};
+ghost use Rattle.gor_marks.specs.Spelling.{MarkInLimits};
 
 use gor_marks::{Mark, MarkFault, read_mark, write_mark};
 use gor_model::Wrong;
@@ -13,7 +13,7 @@ const SEALED: [u8; 22] = [
 ];
 
 fn is_written(alloc: Global, mark: &Mark, want: &[u8]) -> Result<bool, AllocError>
-    requires { InLimits mark.now }
+    requires { MarkInLimits mark.now }
 {
     let mut out = Vec::new(alloc);
     write_mark(mark, &mut out)?;

@@ -1,6 +1,6 @@
 //! Block files: files of one block, of two and of none are written and read, and each fault has its place.
 ghost use Rattle.std.specs.Prelude.{All};
-ghost use Rattle.gor_slab.specs.Reading.{IsInside};
+ghost use Rattle.gor_slab.specs.Reading.{StandsInFile};
 
 use gor_model::{Unit, Wrong};
 use gor_slab::{SlabFault, SlabRow, SlabWriter, block_at, read_index};
@@ -81,7 +81,7 @@ fn row(uid: u64, window: u32, place: u64, length: u32) -> SlabRow {
 
 /// Whether each row's block is the one that was added: the last of 21 bytes, and the other of sevens.
 fn are_blocks(file: &[u8], rows: &[SlabRow]) -> bool
-    requires { All (IsInside file.now) rows.now }
+    requires { All (StandsInFile file.now) rows.now }
 {
     for row in rows {
         let block = block_at(file, row);

@@ -5,7 +5,7 @@ use Rattle.std.specs.Prelude.{IsFalse}
 use Rattle.gor_model.specs.Answers.{Legal, IsAnswered, is_stopped}
 use Rattle.gor_model.specs.AnswersByShares.{take_by}
 use Rattle.gor_model.specs.Changes.{History, changes}
-use Rattle.gor_model.specs.Objects.{Has, Touches, share_of}
+use Rattle.gor_model.specs.Objects.{Has, TouchesObject, share_of}
 use Rattle.gor_model.specs.Shares.{OfDevice, OfJournal, DeviceShare, JournalShare, Buffered, device_share, journal_share, buffered_after}
 use Rattle.gor_model.specs.SharesAfter.{device_done, device_stopped, journal_taken, journal_stopped}
 use Rattle.gor_model.specs.Starts.{IsStart}
@@ -18,9 +18,9 @@ use Rattle.gor_model.proofs.AfterLaws.{device_take_after}
 use Rattle.gor_model.proofs.EventLaws.{take_answered, take_touched, stop_answered, stop_touched, done_answered, done_touched}
 use Rattle.gor_model.proofs.NumberedLaws.{device_at, journal_at}
 use Rattle.gor_model.proofs.ObjectLaws.{fits}
-use Rattle.gor_journal.specs.Bodies.{Kept}
-use Rattle.gor_journal.specs.Stands.{journal_stands, Stands}
-use Rattle.gor_flush.specs.Devices.{Shown, StandsFor, device_stands}
+use Rattle.gor_journal.specs.Bodies.{KeptJournal}
+use Rattle.gor_journal.specs.Stands.{journal_stands, PendingStands}
+use Rattle.gor_flush.specs.Devices.{Shown, DeviceStandsFor, device_stands}
 use Rattle.gor_flush.specs.Takes.{share_taken, share_done, share_stopped}
 use Rattle.gor_finish.specs.Flushes.{take_made, take_refused, done_made, stop_made}
 
@@ -30,16 +30,16 @@ other_way a b o has = ⊎_elim (λ (q : a ≡ o). inr (inl q)) (⊎_elim (λ (q 
 
 module _ (start : Start) where
   -- a value's share, and back
-  pub device_to : (h : History) (d : Shown) (share : DeviceShare) → share_of start 0 h ≡ OfDevice share → device_stands start 0 d (share_of start 0 h) → StandsFor d start share
+  pub device_to : (h : History) (d : Shown) (share : DeviceShare) → share_of start 0 h ≡ OfDevice share → device_stands start 0 d (share_of start 0 h) → DeviceStandsFor d start share
   device_to h d share is s = subst (device_stands start 0 d) is s
 
-  pub device_from : (h : History) (d : Shown) (share : DeviceShare) → share_of start 0 h ≡ OfDevice share → StandsFor d start share → device_stands start 0 d (share_of start 0 h)
+  pub device_from : (h : History) (d : Shown) (share : DeviceShare) → share_of start 0 h ≡ OfDevice share → DeviceStandsFor d start share → device_stands start 0 d (share_of start 0 h)
   device_from h d share is s = subst (device_stands start 0 d) (sym is) s
 
-  pub journal_to : (h : History) (j : Kept) → journal_stands start (start.slots + 2) j (share_of start (start.slots + 2) h) → Stands j.pending (journal_share start h)
+  pub journal_to : (h : History) (j : KeptJournal) → journal_stands start (start.slots + 2) j (share_of start (start.slots + 2) h) → PendingStands j.pending (journal_share start h)
   journal_to h j s = subst (journal_stands start (start.slots + 2) j) (journal_at start h) s
 
-  pub journal_from : (h : History) (j : Kept) (share : JournalShare) → journal_share start h ≡ share → Stands j.pending share → journal_stands start (start.slots + 2) j (share_of start (start.slots + 2) h)
+  pub journal_from : (h : History) (j : KeptJournal) (share : JournalShare) → journal_share start h ≡ share → PendingStands j.pending share → journal_stands start (start.slots + 2) j (share_of start (start.slots + 2) h)
   journal_from h j share is s = subst (journal_stands start (start.slots + 2) j) (sym (journal_at start h ∙ ap OfJournal is)) s
 
 module _ (start : Start) (is : IsStart start) (h : History) (legal : Legal start h) (lane : ℕ) where
@@ -56,7 +56,7 @@ module _ (start : Start) (is : IsStart start) (h : History) (legal : Legal start
     by : take_by journal ≡ reply.Stopped
     by = rw stopped refl
 
-  pub refused_touched : (o : ℕ) → Touches start h (take_refused lane) o → Has ((start.slots + 2) ∷ 0 ∷ []) o
+  pub refused_touched : (o : ℕ) → TouchesObject start h (take_refused lane) o → Has ((start.slots + 2) ∷ 0 ∷ []) o
   refused_touched o t = other_way 0 (start.slots + 2) o (take_touched start is h legal lane reply.Stopped o t)
 
   pub refused_device : device_share start (take_refused lane ∷ h) ≡ device
@@ -72,7 +72,7 @@ module _ (start : Start) (is : IsStart start) (h : History) (legal : Legal start
     by : take_by journal ≡ reply.Take n
     by = rw runs (ap reply.Take (length-map (buffered_after start h) (λ (b : Buffered). b.change) ∙ sym size))
 
-  pub taken_touched : (n o : ℕ) → Touches start h (take_made lane n) o → Has ((start.slots + 2) ∷ 0 ∷ []) o
+  pub taken_touched : (n o : ℕ) → TouchesObject start h (take_made lane n) o → Has ((start.slots + 2) ∷ 0 ∷ []) o
   taken_touched n o t = other_way 0 (start.slots + 2) o (take_touched start is h legal lane (reply.Take n) o t)
 
   pub taken_device : (n : ℕ) → device_share start (take_made lane n ∷ h) ≡ share_taken start h
@@ -95,7 +95,7 @@ module _ (start : Start) (is : IsStart start) (h before : History) (legal : Lega
     pub done_is_answered : IsAnswered start h (done_made lane moment n)
     done_is_answered = subst (λ (k : ℕ). IsAnswered start h (done_made lane moment k)) (sym size) (done_answered start is h legal lane (share_taken start before) here refl None moment)
 
-    pub done_is_touched : (o : ℕ) → Touches start h (done_made lane moment n) o → Has (0 ∷ []) o
+    pub done_is_touched : (o : ℕ) → TouchesObject start h (done_made lane moment n) o → Has (0 ∷ []) o
     done_is_touched o t = done_touched start is h legal lane None moment (reply.Done n) o t
 
     pub done_device : device_share start (done_made lane moment n ∷ h) ≡ share_done moment start before
@@ -106,7 +106,7 @@ module _ (start : Start) (is : IsStart start) (h before : History) (legal : Lega
   pub stop_is_answered : is_stopped before ≡ false → IsAnswered start h (stop_made lane)
   stop_is_answered runs = stop_answered start is h legal lane (share_taken start before) (journal_share start h) here (journal_at start h) (subst IsFalse (sym runs) refl)
 
-  pub stop_is_touched : (o : ℕ) → Touches start h (stop_made lane) o → Has ((start.slots + 2) ∷ 0 ∷ []) o
+  pub stop_is_touched : (o : ℕ) → TouchesObject start h (stop_made lane) o → Has ((start.slots + 2) ∷ 0 ∷ []) o
   stop_is_touched o t = other_way 0 (start.slots + 2) o (stop_touched start is h legal lane reply.Stop o t)
 
   pub stop_device : device_share start (stop_made lane ∷ h) ≡ share_stopped start before

@@ -12,7 +12,7 @@ use Rattle.gor_rule.proofs.Numbers.{beginning_trans}
 use Rattle.gor_hall.specs.declared.pass.Pass.{Pass}
 use Rattle.gor_hall.specs.Passes.{view, seen, made, lane_of}
 use Rattle.gor_hall.specs.Steps.{HasMarked}
-use Rattle.gor_finish.specs.Made.{Numbered, StandsIn, HasMade}
+use Rattle.gor_finish.specs.Made.{Numbered, StandsAtNumber, HasMade}
 use Rattle.gor_finish.specs.Steps.{IsLike}
 
 pub one_made : (old new : Pass) (v w : View) (e : Event) (n : ℕ) → IsLike (view old) v → HasMarked v e n w → IsLike w (view new) → e.lane ≡ lane_of old
@@ -32,10 +32,10 @@ one_made old new v w e n before m after lane =
       last = (h, seen_is, m.1.0);
     }
 
-stands_on : (H K : History) (e : Numbered) → IsBeginning H K → StandsIn H e → StandsIn K e
+stands_on : (H K : History) (e : Numbered) → IsBeginning H K → StandsAtNumber H e → StandsAtNumber K e
 stands_on H K e begins s = (s.0, beginning_trans (e.1 ∷ s.0) H K s.1 begins, s.2)
 
-pub all_on : (H K : History) (events : List Numbered) → IsBeginning H K → AllByRecursion (StandsIn H) events → AllByRecursion (StandsIn K) events
+pub all_on : (H K : History) (events : List Numbered) → IsBeginning H K → AllByRecursion (StandsAtNumber H) events → AllByRecursion (StandsAtNumber K) events
 all_on H K [] begins all = tt
 all_on H K (e ∷ events) begins all = (stands_on H K e begins all.0, all_on H K events begins all.1)
 

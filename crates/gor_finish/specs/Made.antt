@@ -14,8 +14,8 @@ abbrev pub Numbered : Type 0
 Numbered = ℕ × Event
 
 -- the event stands at its number: so many events are before it
-abbrev pub StandsIn : History → Numbered → Type 0
-StandsIn H e = (h : History) × IsBeginning (e.1 ∷ h) H × (e.0 ≡ length h)
+abbrev pub StandsAtNumber : History → Numbered → Type 0
+StandsAtNumber H e = (h : History) × IsBeginning (e.1 ∷ h) H × (e.0 ≡ length h)
 
 -- the last of these events, of which the newest stands first, ends the history
 abbrev pub IsLast : History → List Numbered → Type 0
@@ -30,5 +30,5 @@ pub record HasMade (old new : Pass) (events : List Numbered) : Type 0 where
   pub begins : IsBeginning (seen old) (seen new)
   pub made_is : made new ≡ map (λ e. e.0) events ++ made old
   pub own : numbers (lane_of old) (seen new) ≡ made new
-  pub each : AllByRecursion (StandsIn (seen new)) events
+  pub each : AllByRecursion (StandsAtNumber (seen new)) events
   pub last : IsLast (seen new) events

@@ -4,17 +4,17 @@ ghost use Rattle.gor_hall.specs.Calls.{StaysPass};
 ghost use Rattle.gor_hall.specs.Halls.{IsPassOf};
 ghost use Rattle.gor_hall.specs.Passes.{view, held, at, lane_of, left_of_pass};
 ghost use Rattle.gor_journal.specs.Bodies.{AreEmpty};
-ghost use Rattle.gor_journal.specs.Stands.{Stands as Shows};
+ghost use Rattle.gor_journal.specs.Stands.{PendingStands};
 ghost use Rattle.gor_model.specs.Answers.{Legal};
 ghost use Rattle.gor_model.specs.Shares.{JournalShare};
 ghost use Rattle.gor_model.specs.SharesAfter.{journal_taken};
-ghost use Rattle.gor_flush.specs.Devices.{shown};
-ghost use Rattle.gor_flush.specs.Takes.{with_buffers, HasTaken, StandsDone, StandsStopped};
+ghost use Rattle.gor_flush.specs.Devices.{device_shown};
+ghost use Rattle.gor_flush.specs.Takes.{with_buffers, HoldsTaken, StandsDone, StandsStopped};
 ghost use Rattle.gor_model.specs.Changes.{History, changes};
 ghost use Rattle.gor_model.specs.declared.start.Start.{Start};
 ghost use Rattle.gor_finish.specs.Made.{HasMade};
 ghost use Rattle.gor_finish.specs.Flushes.{take_made, take_refused, done_made, stop_made, IsFlush, Ends};
-ghost use Rattle.gor_finish.specs.Steps.{DeviceStands, JournalStands, Waits, HasWritten, HasFailed, HasLeft, journal_of, AreTakenFrom};
+ghost use Rattle.gor_finish.specs.Steps.{DeviceStands, JournalStands, Waits, WriteIsDone, WriteHasFailed, SpendsAtMost, journal_number, AreTakenFrom};
 
 use crate::events::{DoneMade, StopMade, TakeMade, TakeRefused};
 use crate::parts::{give_both, give_device, give_journal, take_device, take_journal};
@@ -28,11 +28,11 @@ use std::sync::Wait;
 
 /// Moves all that waits to the device's buffers, and gives the count of changes.
 fn move_changes<D: Disk>(device: &mut Device<D>, journal: &mut Journal) -> u64
-    requires { AreEmpty (shown D.tells D.view D.faults device.old).buffers }
-    ensures same { with_buffers (shown D.tells D.view D.faults device.old).buffers (shown D.tells D.view D.faults device.new) ≡ shown D.tells D.view D.faults device.old }
-    ensures count { result ≡ (shown D.tells D.view D.faults device.new).buffers.changes }
-    ensures taken { AreTakenFrom journal.old.pending (shown D.tells D.view D.faults device.new).buffers }
-    ensures left { (share : JournalShare) → Shows journal.old.pending share → Shows journal.new.pending (journal_taken share) }
+    requires { AreEmpty (device_shown D.tells D.view D.faults device.old).buffers }
+    ensures same { with_buffers (device_shown D.tells D.view D.faults device.old).buffers (device_shown D.tells D.view D.faults device.new) ≡ device_shown D.tells D.view D.faults device.old }
+    ensures count { result ≡ (device_shown D.tells D.view D.faults device.new).buffers.changes }
+    ensures taken { AreTakenFrom journal.old.pending (device_shown D.tells D.view D.faults device.new).buffers }
+    ensures left { (share : JournalShare) → PendingStands journal.old.pending share → PendingStands journal.new.pending (journal_taken share) }
 {
     journal.take(device.buffers());
     device.buffers().changes
@@ -45,9 +45,9 @@ fn refuse<D: Disk>(
     device: Device<D>,
     journal: Journal,
 ) -> u64
-    requires pass { IsPassOf shard.now pass.old × (0 < left_of_pass pass.old) × (held pass.old ≡ journal_of (view pass.old) ∷ 0 ∷ []) }
+    requires pass { IsPassOf shard.now pass.old × (0 < left_of_pass pass.old) × (held pass.old ≡ journal_number (view pass.old) ∷ 0 ∷ []) }
     requires legal { Legal (view pass.old).start (at pass.old) }
-    requires device { DeviceStands (view pass.old) (shown D.tells D.view D.faults device) }
+    requires device { DeviceStands (view pass.old) (device_shown D.tells D.view D.faults device) }
     requires journal { JournalStands (view pass.old) journal }
     requires stopped { device.stopped ≡ true }
     ensures pass { StaysPass shard.now 1 pass.old pass.new × (held pass.new ≡ []) }
@@ -66,16 +66,16 @@ fn take_all<D: Disk>(
     device: &mut Device<D>,
     mut journal: Journal,
 ) -> (u64, u64)
-    requires pass { IsPassOf shard.now pass.old × (0 < left_of_pass pass.old) × (held pass.old ≡ journal_of (view pass.old) ∷ 0 ∷ []) }
+    requires pass { IsPassOf shard.now pass.old × (0 < left_of_pass pass.old) × (held pass.old ≡ journal_number (view pass.old) ∷ 0 ∷ []) }
     requires legal { Legal (view pass.old).start (at pass.old) }
     requires short { length (at pass.old) ≤ 2 ^ 44 }
-    requires device { DeviceStands (view pass.old) (shown D.tells D.view D.faults device.old) }
+    requires device { DeviceStands (view pass.old) (device_shown D.tells D.view D.faults device.old) }
     requires journal { JournalStands (view pass.old) journal }
     requires runs { device.old.stopped ≡ false }
     ensures pass { StaysPass shard.now 1 pass.old pass.new × (held pass.new ≡ 0 ∷ []) }
     ensures made { HasMade pass.old pass.new ((result.0, take_made (lane_of pass.old) result.1) ∷ []) }
     ensures legal { Legal (view pass.new).start (at pass.new) }
-    ensures waits { Waits (view pass.new) (shown D.tells D.view D.faults device.new) }
+    ensures waits { Waits (view pass.new) (device_shown D.tells D.view D.faults device.new) }
 {
     let changes = move_changes(device, &mut journal);
     let event = TakeMade {
@@ -91,7 +91,7 @@ fn take_all<D: Disk>(
 fn end_done<D: Disk>(shard: &Hall<Part<D>>, pass: &mut Pass, device: Device<D>, changes: u64) -> u64
     requires pass { IsPassOf shard.now pass.old × (0 < left_of_pass pass.old) × (held pass.old ≡ 0 ∷ []) }
     requires legal { Legal (view pass.old).start (at pass.old) }
-    requires written { HasWritten (view pass.old) (shown D.tells D.view D.faults device) changes }
+    requires written { WriteIsDone (view pass.old) (device_shown D.tells D.view D.faults device) changes }
     ensures pass { StaysPass shard.now 1 pass.old pass.new × (held pass.new ≡ []) }
     ensures made { HasMade pass.old pass.new ((result, done_made (lane_of pass.old) (D.view device.disk).moment changes) ∷ []) }
 {
@@ -113,7 +113,7 @@ fn end_stop<D: Disk, R: Wait>(
     device: Device<D>,
 ) -> u64
     requires pass { IsPassOf shard.now pass.old × (0 < left_of_pass pass.old) × (held pass.old ≡ 0 ∷ []) }
-    requires failed { HasFailed (view pass.old) (shown D.tells D.view D.faults device) }
+    requires failed { WriteHasFailed (view pass.old) (device_shown D.tells D.view D.faults device) }
     ensures pass { StaysPass shard.now 1 pass.old pass.new × (held pass.new ≡ []) }
     ensures made { HasMade pass.old pass.new ((result, stop_made (lane_of pass.old)) ∷ []) }
 {
@@ -136,7 +136,7 @@ fn write_out<D: Disk, R: Wait>(
 ) -> FlushReply
     requires pass { IsPassOf shard.now pass.old × (1 < left_of_pass pass.old) × (held pass.old ≡ 0 ∷ []) }
     requires legal { Legal (view pass.old).start (at pass.old) }
-    requires waits { Waits (view pass.old) (shown D.tells D.view D.faults device) }
+    requires waits { Waits (view pass.old) (device_shown D.tells D.view D.faults device) }
     ensures pass { StaysPass shard.now 1 pass.old pass.new × (held pass.new ≡ []) }
     ensures events { Ends pass.old take taken result pass.new }
 {
@@ -162,7 +162,7 @@ fn write_out<D: Disk, R: Wait>(
 /// and no later call writes the disk until the shard is opened again.
 pub fn flush<D: Disk, R: Wait>(rt: &R, shard: &Hall<Part<D>>, pass: &mut Pass) -> FlushReply
     requires { IsPassOf shard.now pass.old × (held pass.old ≡ []) × (16388 ≤ left_of_pass pass.old) }
-    ensures pass { HasLeft shard.now 2 pass.old pass.new × (held pass.new ≡ []) }
+    ensures pass { SpendsAtMost shard.now 2 pass.old pass.new × (held pass.new ≡ []) }
     ensures events { IsFlush pass.old result pass.new }
 {
     let mut device = take_device(rt, shard, pass);

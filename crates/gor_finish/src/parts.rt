@@ -7,8 +7,8 @@ ghost use Rattle.gor_hall.specs.Steps.{HasWaited};
 ghost use Rattle.gor_flush.specs.Parts.{part_stands};
 ghost use Rattle.gor_flush.specs.declared.part.Part.TheVariants as part;
 ghost use Rattle.gor_rule.specs.Plays.{gave};
-ghost use Rattle.gor_flush.specs.Devices.{shown};
-ghost use Rattle.gor_finish.specs.Steps.{journal_of, DeviceStands, JournalStands, IsLike};
+ghost use Rattle.gor_flush.specs.Devices.{device_shown};
+ghost use Rattle.gor_finish.specs.Steps.{journal_number, DeviceStands, JournalStands, IsLike};
 
 use gor_disk::Disk;
 use gor_flush::{Device, Part};
@@ -29,7 +29,7 @@ pub fn take_device<D: Disk, R: Wait>(rt: &R, shard: &Hall<Part<D>>, pass: &mut P
 pub fn take_journal<D: Disk, R: Wait>(rt: &R, shard: &Hall<Part<D>>, pass: &mut Pass) -> Journal
     requires { IsPassOf shard.now pass.old × (held pass.old ≡ 0 ∷ []) }
     ensures pass { StaysPass shard.now 0 pass.old pass.new }
-    ensures waited { HasWaited (part_stands D.tells D.view D.faults) (view pass.old) (journal_of (view pass.old)) (part.Journal result) (view pass.new) }
+    ensures waited { HasWaited (part_stands D.tells D.view D.faults) (view pass.old) (journal_number (view pass.old)) (part.Journal result) (view pass.new) }
 {
     let last = shard.objects() - 1;
     shard.take(rt, pass, last).into_journal()
@@ -37,10 +37,10 @@ pub fn take_journal<D: Disk, R: Wait>(rt: &R, shard: &Hall<Part<D>>, pass: &mut 
 
 /// Gives the journal back, and keeps the device.
 pub fn give_journal<D: Disk>(shard: &Hall<Part<D>>, pass: &mut Pass, journal: Journal)
-    requires pass { IsPassOf shard.now pass.old × (held pass.old ≡ journal_of (view pass.old) ∷ 0 ∷ []) }
+    requires pass { IsPassOf shard.now pass.old × (held pass.old ≡ journal_number (view pass.old) ∷ 0 ∷ []) }
     requires stands { JournalStands (view pass.old) journal }
     ensures pass { StaysPass shard.now 0 pass.old pass.new × (held pass.new ≡ 0 ∷ []) }
-    ensures gave { view pass.new ≡ gave (view pass.old) (journal_of (view pass.old)) }
+    ensures gave { view pass.new ≡ gave (view pass.old) (journal_number (view pass.old)) }
 {
     let last = shard.objects() - 1;
     shard.give(pass, last, Part::Journal(journal));
@@ -49,7 +49,7 @@ pub fn give_journal<D: Disk>(shard: &Hall<Part<D>>, pass: &mut Pass, journal: Jo
 /// Gives the device back, which is all that the pass holds.
 pub fn give_device<D: Disk>(shard: &Hall<Part<D>>, pass: &mut Pass, device: Device<D>)
     requires pass { IsPassOf shard.now pass.old × (held pass.old ≡ 0 ∷ []) }
-    requires stands { DeviceStands (view pass.old) (shown D.tells D.view D.faults device) }
+    requires stands { DeviceStands (view pass.old) (device_shown D.tells D.view D.faults device) }
     ensures pass { StaysPass shard.now 0 pass.old pass.new × (held pass.new ≡ []) }
     ensures like { IsLike (view pass.old) (view pass.new) }
 {
@@ -63,8 +63,8 @@ pub fn give_both<D: Disk>(
     device: Device<D>,
     journal: Journal,
 )
-    requires pass { IsPassOf shard.now pass.old × (held pass.old ≡ journal_of (view pass.old) ∷ 0 ∷ []) }
-    requires device { DeviceStands (view pass.old) (shown D.tells D.view D.faults device) }
+    requires pass { IsPassOf shard.now pass.old × (held pass.old ≡ journal_number (view pass.old) ∷ 0 ∷ []) }
+    requires device { DeviceStands (view pass.old) (device_shown D.tells D.view D.faults device) }
     requires journal { JournalStands (view pass.old) journal }
     ensures pass { StaysPass shard.now 0 pass.old pass.new × (held pass.new ≡ []) }
     ensures like { IsLike (view pass.old) (view pass.new) }

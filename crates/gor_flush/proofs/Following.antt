@@ -10,11 +10,11 @@ use Rattle.gor_marks.specs.declared.mark.Mark.TheVariants.{Home, Sealed}
 use Rattle.gor_recover.specs.declared.recovered.LogTop.{LogTop}
 use Rattle.gor_image.specs.Images.{current, base_of, first_log_of}
 use Rattle.gor_image.specs.Recovery.{is_above}
-use Rattle.gor_image.specs.MarkLists.{MayFollow, AllFollow, AreMarks}
+use Rattle.gor_image.specs.MarkLists.{MarkMayFollow, AllFollow, AreMarks}
 use Rattle.gor_recover.specs.Recovered.{AreTops}
 use Rattle.gor_image.proofs.ReadBack.{unless, not_false}
 use Rattle.gor_flush.specs.NextMarks.{first_needed, is_later, next_mark}
-use Rattle.gor_flush.specs.Writes.{raised}
+use Rattle.gor_flush.specs.Writes.{last_top_raised}
 use Rattle.gor_flush.specs.Dropping.{AreSomeMarks}
 use Rattle.gor_flush.proofs.MarkLists.{current_push, window_push, log_within}
 
@@ -35,7 +35,7 @@ one_more (Some v) n w few above = (let less : v < w = (let test = above in grind
 pub next_few : (marks : List Mark) (w : ℕ) → Few marks → is_above (base_of marks).window w ≡ true → current marks ≤ w
 next_few marks w few above = one_more (base_of marks).window (current marks) w few above
 
-push_few : (s : List Mark) (w k u f : ℕ) → Few s → MayFollow s (Sealed w k u f) → Few (s ++ Sealed w k u f ∷ [])
+push_few : (s : List Mark) (w k u f : ℕ) → Few s → MarkMayFollow s (Sealed w k u f) → Few (s ++ Sealed w k u f ∷ [])
 push_few s w k u f few may =
     let above = not_false (is_above (base_of s).window w) (unless (not (is_above (base_of s).window w)) _ _ (s ++ Sealed w k u f ∷ []) may.rises).0 in
     let low = next_few s w few above in
@@ -75,7 +75,7 @@ range_within : (a n b : ℕ) → a + n ≤ b → (low : ℕ) → low ≤ a → A
 range_within a zero b high low below = tt
 range_within a (suc n) b high low below = ((below, omega (arith, high)), range_within (a + 1) n b (omega (arith, high)) low (omega (arith, below)))
 
-logs_raised : (top : Option ℕ) (tops : List LogTop) → map (λ t. t.log) (raised top tops) ≡ map (λ t. t.log) tops
+logs_raised : (top : Option ℕ) (tops : List LogTop) → map (λ t. t.log) (last_top_raised top tops) ≡ map (λ t. t.log) tops
 logs_raised top [] = refl
 logs_raised top (t ∷ []) = refl
 logs_raised top (t ∷ u ∷ more) = ap (λ l. t.log ∷ l) (logs_raised top (u ∷ more))
@@ -88,10 +88,10 @@ first_within P w n own (t ∷ tops) all = by (is_later w t.top) refl (first_with
   by false e rest = rw e rest
 
 pub needed_within : (shards shard w : ℕ) (top : Option ℕ) (marks : List Mark) (tops : List LogTop) → AreMarks shards shard marks → AreTops marks tops
-    → (first_log_of marks ≤ first_needed w (current marks + 1) (raised top tops)) × (first_needed w (current marks + 1) (raised top tops) ≤ current marks + 1)
+    → (first_log_of marks ≤ first_needed w (current marks + 1) (last_top_raised top tops)) × (first_needed w (current marks + 1) (last_top_raised top tops) ≤ current marks + 1)
 needed_within shards shard w top marks tops are logs =
     let within = log_within marks (some_marks shards shard marks are) in
-    first_within (λ l. (first_log_of marks ≤ l) × (l ≤ current marks + 1)) w (current marks + 1) (omega (arith, within), omega arith) (raised top tops)
+    first_within (λ l. (first_log_of marks ≤ l) × (l ≤ current marks + 1)) w (current marks + 1) (omega (arith, within), omega arith) (last_top_raised top tops)
     (subst (λ (ls : List ℕ). AllByRecursion (λ l. (first_log_of marks ≤ l) × (l ≤ current marks + 1)) ls) (sym (logs_raised top tops ∙ logs))
     (range_within (first_log_of marks) (current marks + 1 - first_log_of marks) (current marks + 1) (omega (arith, within)) (first_log_of marks) (omega arith)))
 
@@ -101,7 +101,7 @@ unless_is : {A F : Type 0} (b : Bool) (f : F) (r : Result A F) (a : A) → b ≡
 unless_is b f r a off is = rw off is
 
 pub next_follows : (shards shard w upto : ℕ) (top : Option ℕ) (marks : List Mark) (tops : List LogTop) → AreMarks shards shard marks → AreTops marks tops
-    → w ≤ last_window → is_above (base_of marks).window w ≡ true → IsNumber upto → (base_of marks).upto ≤ upto → MayFollow marks (next_mark w upto top marks tops)
+    → w ≤ last_window → is_above (base_of marks).window w ≡ true → IsNumber upto → (base_of marks).upto ≤ upto → MarkMayFollow marks (next_mark w upto top marks tops)
 next_follows shards shard w upto top marks tops are logs low above number stays =
     let few = next_few marks w (are_few shards shard marks are) above in
     let needed = needed_within shards shard w top marks tops are logs in
@@ -113,6 +113,6 @@ next_follows shards shard w upto top marks tops are logs low above number stays 
           unless_is (not (is_above (base_of marks).window w)) _ _ (marks ++ m ∷ []) (rw above refl)
           (unless_is (not (nat_eq (current marks + 1) (current marks + 1))) _ _ (marks ++ m ∷ []) (grind arith)
           (unless_is (nat_lt upto (base_of marks).upto) _ _ (marks ++ m ∷ []) (grind arith)
-          (unless_is (nat_lt (first_needed w (current marks + 1) (raised top tops)) (first_log_of marks)) _ _ (marks ++ m ∷ []) (let least = needed.0 in grind arith)
+          (unless_is (nat_lt (first_needed w (current marks + 1) (last_top_raised top tops)) (first_log_of marks)) _ _ (marks ++ m ∷ []) (let least = needed.0 in grind arith)
           refl)));
     }

@@ -4,11 +4,11 @@ use Rattle.std.specs.Prelude.{Ok, nat_lt, ◌^◌}
 use Rattle.std.specs.List.{AllByRecursion}
 use Rattle.gor_disk.specs.Disk.{Contents}
 use Rattle.gor_recover.specs.declared.recovered.Recovered.{Recovered}
-use Rattle.gor_image.specs.Records.{Batch}
+use Rattle.gor_image.specs.Records.{BatchInLog}
 use Rattle.gor_image.specs.Recovery.{ShardMap}
 use Rattle.gor_image.specs.Images.{map_of, opens_to, with_limits, slots_needed, top_of}
 use Rattle.gor_image.proofs.ReadBack.{unless, after_ok}
-use Rattle.gor_flush.specs.Opening.{IsFresh, IsStore, WasFound}
+use Rattle.gor_flush.specs.Opening.{ShowsNothing, IsStore, WasFound}
 
 -- the limits leave the map as it is
 limits_same : (slots : ℕ) (m map : ShardMap) → with_limits slots m ≡ Ok map → m ≡ map
@@ -24,10 +24,10 @@ opened_map shards shard slots given map is =
     m.1 ∙ ap Ok (limits_same slots m.0 map m.2)
 
 module _ (shards shard : ℕ) (given : Contents) (r : Recovered) (was : WasFound shards shard given r) where
-  pub found_fresh : r.marks.items ≡ [] → IsFresh given r.tops.items
+  pub found_fresh : r.marks.items ≡ [] → ShowsNothing given r.tops.items
   found_fresh none = record {
     marks = was.found.marks ∙ ap Ok none;
-    tops = subst (λ (b : List Batch). AllByRecursion (λ t. t.top ≡ top_of t.log b) r.tops.items) (was.found.unmarked none) was.found.tops;
+    tops = subst (λ (b : List BatchInLog). AllByRecursion (λ t. t.top ≡ top_of t.log b) r.tops.items) (was.found.unmarked none) was.found.tops;
   }
 
   pub found_store : r.marks.items ≢ [] → IsStore shards shard given r.marks.items r.tops.items

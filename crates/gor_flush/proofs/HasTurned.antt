@@ -2,18 +2,18 @@
 use Rattle.std.proofs.Common.{◌≡◌, ℕ, ◌+◌, ◌≤◌, List, [], ◌∷◌, ◌++◌, true, false, IsTrue, length, refl, sym, ap, ◌∙◌, subst, arith}
 use Rattle.gor_disk.specs.declared.disk.FileId.TheVariants.{Marks, Keys, Log}
 use Rattle.gor_disk.specs.Disk.{DiskView, LeavesSince, NothingPending, Runs}
-use Rattle.gor_gate.specs.Places.{IsEnsured, Place}
+use Rattle.gor_gate.specs.Places.{IsEnsured, GatedPlace}
 use Rattle.gor_model.specs.Shares.{DeviceShare}
 use Rattle.gor_model.specs.declared.start.Start.{Start}
 use Rattle.gor_marks.specs.declared.mark.Mark.{Mark}
 use Rattle.gor_image.specs.Fit.{FitHolds}
 use Rattle.gor_image.specs.Images.{current}
-use Rattle.gor_image.specs.Laws.{IsBefore}
+use Rattle.gor_image.specs.Laws.{MayBeWrittenOn}
 use Rattle.gor_marks.specs.declared.mark.Mark.TheVariants.{Home, Sealed}
-use Rattle.gor_image.specs.MarkLists.{AreBehind, AreMarks, MayFollow}
+use Rattle.gor_image.specs.MarkLists.{AreBehind, AreMarks, MarkMayFollow}
 use Rattle.gor_recover.specs.Recovered.{AreTops}
 use Rattle.gor_recover.specs.declared.recovered.LogTop.{LogTop}
-use Rattle.gor_flush.specs.Devices.{HoldsPrefix, IsRunning, RunsBy, SettledBy, ShowTops, Shown, StandsFor, StillBy, last_count}
+use Rattle.gor_flush.specs.Devices.{HoldsPrefix, IsRunning, RunsBy, SettledBy, ShowTops, Shown, DeviceStandsFor, StillBy, last_count}
 use Rattle.gor_flush.specs.Finishes.{HasMark}
 use Rattle.gor_flush.specs.Keeps.{with_disk}
 use Rattle.gor_flush.specs.NextMarks.{AreFilesOf, TurnsBeside}
@@ -25,11 +25,11 @@ use Rattle.gor_flush.proofs.Starting.{call_keeps, step_keeps}
 pub record DiskTurned (before : Shown) (start : Start) (share : DeviceShare) (disk : DiskView) (list : List Mark) (tops : List LogTop) : Type 0 where
   pub pending : NothingPending disk
   pub runs : Runs (λ image. FitHolds before.shards before.shard image start share.taken) before.disk disk
-  pub now : LeavesSince disk.moment disk (λ image. IsBefore before.shards before.shard image list start share.taken)
+  pub now : LeavesSince disk.moment disk (λ image. MayBeWrittenOn before.shards before.shard image list start share.taken)
   pub shown : LeavesSince disk.moment disk (ShowTops list tops)
 
 -- what the device has, on every disk
-pub record DeviceTurned (before : Shown) (start : Start) (share : DeviceShare) (disk : DiskView) (faults : ℕ) (marks keys log : Place) (list : List Mark) (tops : List LogTop) : Type 0 where
+pub record DeviceTurned (before : Shown) (start : Start) (share : DeviceShare) (disk : DiskView) (faults : ℕ) (marks keys log : GatedPlace) (list : List Mark) (tops : List LogTop) : Type 0 where
   pub runs : share.stopped ≡ false
   pub faults_same : faults ≡ before.faults
   pub marks_are : AreMarks before.shards before.shard list
@@ -39,8 +39,8 @@ pub record DeviceTurned (before : Shown) (start : Start) (share : DeviceShare) (
   pub later : IsTrue before.tells → before.disk.moment ≤ disk.moment
   pub ensured : IsTrue before.tells → IsEnsured marks disk × IsEnsured keys disk × IsEnsured log disk
 
-module _ (before : Shown) (start : Start) (share : DeviceShare) (disk : DiskView) (faults : ℕ) (marks keys log : Place) (list : List Mark) (tops : List LogTop)
-    (stood : StandsFor before start share) (turned : DeviceTurned before start share disk faults marks keys log list tops) where
+module _ (before : Shown) (start : Start) (share : DeviceShare) (disk : DiskView) (faults : ℕ) (marks keys log : GatedPlace) (list : List Mark) (tops : List LogTop)
+    (stood : DeviceStandsFor before start share) (turned : DeviceTurned before start share disk faults marks keys log list tops) where
   abbrev new : Shown
   new = record before { disk = disk; faults = faults; marks = marks; keys = keys; log = log; list = list; tops = tops }
 
@@ -68,7 +68,7 @@ module _ (before : Shown) (start : Start) (share : DeviceShare) (disk : DiskView
   }
 
   pub stands_turned : (IsTrue before.tells → start.fit ≡ true → DiskTurned before start share disk list tops)
-      → StandsFor (record before { disk = disk; faults = faults; marks = marks; keys = keys; log = log; list = list; tops = tops }) start share
+      → DeviceStandsFor (record before { disk = disk; faults = faults; marks = marks; keys = keys; log = log; list = list; tops = tops }) start share
   stands_turned says = record {
     shards_are = stood.shards_are;
     shard_is = stood.shard_is;
@@ -97,17 +97,17 @@ module _ (before : Shown) (start : Start) (share : DeviceShare) (disk : DiskView
 -- ---- the call
 
 -- the files that a mark begins are those of the number that is then current
-files_of : (list : List Mark) (m : Mark) (keys log : Place) → MayFollow list m → AreFilesOf m keys log → (keys.file ≡ Keys (current (list ++ m ∷ []))) × (log.file ≡ Log (current (list ++ m ∷ [])))
+files_of : (list : List Mark) (m : Mark) (keys log : GatedPlace) → MarkMayFollow list m → AreFilesOf m keys log → (keys.file ≡ Keys (current (list ++ m ∷ []))) × (log.file ≡ Log (current (list ++ m ∷ [])))
 files_of list (Home n s) keys log may are = absurd (let both : true ≡ false = may.sealed in cc)
 files_of list (Sealed w k u f) keys log may are =
     let number : k ≡ current (list ++ Sealed w k u f ∷ []) = (let a = (follows list w k u f may).0 in let b = current_push list w k u f in omega (arith, a, b)) in
     (are.0 ∙ ap Keys number, are.1 ∙ ap Log number)
 
 -- a device to which nothing else happened stands for what it stood for
-pub turned_stands : {old new : Shown} (m : Mark) (before : Shown) (start : Start) (share : DeviceShare) → StandsFor before start share → HasMark before old new start share → TurnsBeside old new
-    → new.list ≡ old.list ++ m ∷ [] → AreMarks new.shards new.shard new.list → AreTops new.list new.tops → MayFollow old.list m → AreFilesOf m new.keys new.log → StandsFor new start share
+pub turned_stands : {old new : Shown} (m : Mark) (before : Shown) (start : Start) (share : DeviceShare) → DeviceStandsFor before start share → HasMark before old new start share → TurnsBeside old new
+    → new.list ≡ old.list ++ m ∷ [] → AreMarks new.shards new.shard new.list → AreTops new.list new.tops → MarkMayFollow old.list m → AreFilesOf m new.keys new.log → DeviceStandsFor new start share
 turned_stands {old} {new} m before start share stood has beside list marks tops may files =
-    subst (λ (d : Shown). StandsFor d start share) (sym same)
+    subst (λ (d : Shown). DeviceStandsFor d start share) (sym same)
     (stands_turned before start share old.disk old.faults old.marks new.keys new.log new.list new.tops stood (record {
       runs = has.runs;
       faults_same = has.faults;

@@ -3,13 +3,13 @@ use Rattle.std.proofs.Common.{inl, inr, ⊎_elim, ℕ, ◌<◌, ◌≤◌, List,
 use Rattle.std.proofs.lemmas.Bool.{cases_lt}
 use Rattle.std.proofs.lemmas.List.{append_assoc, length-append}
 use Rattle.gor_disk.specs.Disk.{DiskView, Contents, IsImage, IsImageAt, LeavesSince, Runs}
-use Rattle.gor_gate.specs.Places.{Place}
+use Rattle.gor_gate.specs.Places.{GatedPlace}
 use Rattle.gor_model.specs.declared.event.Change.{Change}
 use Rattle.gor_model.specs.declared.start.Start.{Start}
 use Rattle.gor_model.specs.Shares.{DoneAt}
 use Rattle.gor_journal.specs.declared.buffers.Buffers.{Buffers}
 use Rattle.gor_recover.specs.declared.recovered.LogTop.{LogTop}
-use Rattle.gor_flush.specs.Devices.{Shown, HoldsPrefix, Prefixes, NoneAbove, Kept, last_count}
+use Rattle.gor_flush.specs.Devices.{Shown, HoldsPrefix, Prefixes, NoneAbove, DonesAreKept, last_count}
 use Rattle.gor_flush.specs.Flushes.{HoldsEither}
 
 -- ---- prefixes
@@ -49,7 +49,7 @@ module _ (P : Contents → Type 0) (Q : Contents → Type 0) (old new : DiskView
 
 -- ---- a device after a call
 
-abbrev pub after : Shown → DiskView → ℕ → Place → Place → List LogTop → Buffers → Bool → ℕ → DiskView → ℕ → Shown
+abbrev pub after : Shown → DiskView → ℕ → GatedPlace → GatedPlace → List LogTop → Buffers → Bool → ℕ → DiskView → ℕ → Shown
 after d disk faults keys log tops buffers stopped written last last_faults = record d {
   disk = disk;
   faults = faults;
@@ -67,7 +67,7 @@ pub older_low : (done : DoneAt) (older : List DoneAt) → NoneAbove done older �
 older_low done [] none = omega arith
 older_low done (d ∷ older) none = none.1
 
-module _ (d : Shown) (disk : DiskView) (faults : ℕ) (keys log : Place) (tops : List LogTop) (buffers : Buffers) (stopped : Bool) (written : ℕ) (last : DiskView) (last_faults : ℕ) (start : Start) (C E : List Change)
+module _ (d : Shown) (disk : DiskView) (faults : ℕ) (keys log : GatedPlace) (tops : List LogTop) (buffers : Buffers) (stopped : Bool) (written : ℕ) (last : DiskView) (last_faults : ℕ) (start : Start) (C E : List Change)
     (runs : Runs (HoldsEither d.shards d.shard start C E) d.disk disk) where
   abbrev new : Shown
   new = after d disk faults keys log tops buffers stopped written last last_faults
@@ -78,7 +78,7 @@ module _ (d : Shown) (disk : DiskView) (faults : ℕ) (keys log : Place) (tops :
       (λ image either. fewer d.shards d.shard start (E ++ C) image 0 (length C) (omega arith) (of_either d.shards d.shard start C image E either))
 
   -- a call whose images all have at least the last count keeps what was kept
-  pub kept_on : (dones : List DoneAt) → last_count dones ≤ length C → Kept d start C dones → Kept new start (E ++ C) dones
+  pub kept_on : (dones : List DoneAt) → last_count dones ≤ length C → DonesAreKept d start C dones → DonesAreKept new start (E ++ C) dones
   kept_on [] low kept = tt
   kept_on (done ∷ older) low kept = (
     kept.0,
@@ -92,8 +92,8 @@ module _ (d : Shown) (disk : DiskView) (faults : ℕ) (keys log : Place) (tops :
 
 -- a Done of this moment, with a count that every image now has, extends it
 pub kept_done : (d : Shown) (start : Start) (C : List Change) (count : ℕ) (dones : List DoneAt) → d.opened ≤ d.disk.moment → LeavesSince d.disk.moment d.disk (HoldsPrefix d.shards d.shard start C count)
-    → last_count dones ≤ count → Kept d start C dones → Kept d start C (record { moment = d.disk.moment; count = count } ∷ dones)
+    → last_count dones ≤ count → DonesAreKept d start C dones → DonesAreKept d start C (record { moment = d.disk.moment; count = count } ∷ dones)
 kept_done d start C count dones since now low kept = (since, omega arith, now, none dones kept low, kept) where
-  none : (dones : List DoneAt) → Kept d start C dones → last_count dones ≤ count → NoneAbove (record { moment = d.disk.moment; count = count }) dones
+  none : (dones : List DoneAt) → DonesAreKept d start C dones → last_count dones ≤ count → NoneAbove (record { moment = d.disk.moment; count = count }) dones
   none [] kept low = tt
   none (done ∷ older) kept low = (kept.1, low)

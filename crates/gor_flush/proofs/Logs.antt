@@ -12,17 +12,16 @@ use Rattle.gor_model.specs.PlainMap.{next_change}
 use Rattle.gor_image.proofs.AnyMarks.{range_other}
 use Rattle.gor_marks.specs.declared.mark.Mark.{Mark}
 use Rattle.gor_log.specs.declared.record.LogRecord.{LogRecord}
-use Rattle.gor_log.specs.Spelling.{IsBatch}
-use Rattle.gor_log.specs.Spelling as log_spelling
+use Rattle.gor_log.specs.Spelling.{IsBatch, Batch, batch_spelling, log_record_spelling}
 use Rattle.gor_log.proofs.BodyLaws.{log_again}
-use Rattle.gor_image.specs.Records.{Batch}
+use Rattle.gor_image.specs.Records.{BatchInLog}
 use Rattle.gor_image.specs.declared.fault.ImageFault.{ImageFault}
 use Rattle.gor_image.specs.declared.fault.DamageKind.TheVariants.{Order}
 use Rattle.gor_recover.specs.declared.recovered.LogTop.{LogTop}
-use Rattle.gor_image.specs.Grammars.{Reads, and_then, from, wrong, log_at, records_placed, batch_placed}
+use Rattle.gor_image.specs.Grammars.{Reads, and_then, from, damage_at, log_at, records_placed, batch_placed}
 use Rattle.gor_image.specs.Images.{read_gated, read_batch, read_logs, last_number, current, first_log_of, remaining_logs, put_window, greatest_of, top_of}
 use Rattle.gor_image.specs.ChangeRecords.{log_records_of, batch_of, waiting_after}
-use Rattle.gor_image.specs.Laws.{IsBefore, Follow, HasBatch}
+use Rattle.gor_image.specs.Laws.{MayBeWrittenOn, Follow, HasBatch}
 use Rattle.gor_image.proofs.AppendLaw.{upto_below, lasts_below}
 use Rattle.gor_image.proofs.FitLaw.{stands_of_fit}
 use Rattle.gor_image.proofs.FitStands.{marks_within}
@@ -32,7 +31,7 @@ use Rattle.gor_image.specs.Appends.{ImageStands, files_as}
 use Rattle.gor_journal.specs.Entries.{greater}
 use Rattle.gor_journal.specs.Records.{greatest_window}
 use Rattle.gor_flush.specs.Devices.{ShowTops}
-use Rattle.gor_flush.specs.Writes.{raised}
+use Rattle.gor_flush.specs.Writes.{last_top_raised}
 use Rattle.gor_flush.proofs.Tops.{shown_on, top_other, top_own, windows_are, raised_same}
 
 -- ---- the last of some numbers
@@ -53,43 +52,43 @@ logs_are marks within =
 
 -- ---- reading
 
-pub logs_same : (image after : Contents) → ((l : ℕ) → gates (after (Log l)) ≡ gates (image (Log l))) → (ls : List ℕ) (s : List Batch) → read_logs after ls s ≡ read_logs image ls s
+pub logs_same : (image after : Contents) → ((l : ℕ) → gates (after (Log l)) ≡ gates (image (Log l))) → (ls : List ℕ) (s : List BatchInLog) → read_logs after ls s ≡ read_logs image ls s
 logs_same image after same [] s = refl
 logs_same image after same (l ∷ ls) s =
-    ap (λ (r : Result (List Batch) ImageFault). and_then r (λ more. read_logs after ls more)) (gated_same image after (read_batch l) (Log l) s (same l))
+    ap (λ (r : Result (List BatchInLog) ImageFault). and_then r (λ more. read_logs after ls more)) (gated_same image after (read_batch l) (Log l) s (same l))
     ∙ on (read_gated image (read_batch l) (Log l) s) (λ u. logs_same image after same ls u) where
-      on : (r : Result (List Batch) ImageFault) → ((u : List Batch) → read_logs after ls u ≡ read_logs image ls u) → and_then r (λ more. read_logs after ls more) ≡ and_then r (λ more. read_logs image ls more)
+      on : (r : Result (List BatchInLog) ImageFault) → ((u : List BatchInLog) → read_logs after ls u ≡ read_logs image ls u) → and_then r (λ more. read_logs after ls more) ≡ and_then r (λ more. read_logs image ls more)
       on (Ok u) further = further u
       on (Err f) further = refl
 
-logs_push : (image after : Contents) (k : ℕ) (batch : Batch) → ((l : ℕ) → l ≢ k → gates (after (Log l)) ≡ gates (image (Log l)))
-    → ((s t : List Batch) → read_gated image (read_batch k) (Log k) s ≡ Ok t → last_number t < batch.first → read_gated after (read_batch k) (Log k) s ≡ Ok (t ++ batch ∷ []))
-    → (init : List ℕ) → AllByRecursion (λ l. l ≢ k) init → (s t : List Batch) → read_logs image (init ++ k ∷ []) s ≡ Ok t → last_number t < batch.first → read_logs after (init ++ k ∷ []) s ≡ Ok (t ++ batch ∷ [])
+logs_push : (image after : Contents) (k : ℕ) (batch : BatchInLog) → ((l : ℕ) → l ≢ k → gates (after (Log l)) ≡ gates (image (Log l)))
+    → ((s t : List BatchInLog) → read_gated image (read_batch k) (Log k) s ≡ Ok t → last_number t < batch.first → read_gated after (read_batch k) (Log k) s ≡ Ok (t ++ batch ∷ []))
+    → (init : List ℕ) → AllByRecursion (λ l. l ≢ k) init → (s t : List BatchInLog) → read_logs image (init ++ k ∷ []) s ≡ Ok t → last_number t < batch.first → read_logs after (init ++ k ∷ []) s ≡ Ok (t ++ batch ∷ [])
 logs_push image after k batch others own [] apart s t is late = by (read_gated image (read_batch k) (Log k) s) refl is where
-  by : (o : Result (List Batch) ImageFault) → read_gated image (read_batch k) (Log k) s ≡ o → and_then o (λ more. Ok more) ≡ Ok t → read_logs after (k ∷ []) s ≡ Ok (t ++ batch ∷ [])
+  by : (o : Result (List BatchInLog) ImageFault) → read_gated image (read_batch k) (Log k) s ≡ o → and_then o (λ more. Ok more) ≡ Ok t → read_logs after (k ∷ []) s ≡ Ok (t ++ batch ∷ [])
   by (Err f) e is' = absurd (let both : Err f ≡ Ok t = is' in cc)
-  by (Ok u) e is' = let it : u ≡ t = cc in ap (λ (r : Result (List Batch) ImageFault). and_then r (λ more. Ok more)) (own s t (e ∙ ap Ok it) late)
+  by (Ok u) e is' = let it : u ≡ t = cc in ap (λ (r : Result (List BatchInLog) ImageFault). and_then r (λ more. Ok more)) (own s t (e ∙ ap Ok it) late)
 logs_push image after k batch others own (l ∷ init) apart s t is late =
     by (read_gated image (read_batch l) (Log l) s) refl is (λ u. logs_push image after k batch others own init apart.1 u t) where
-      by : (o : Result (List Batch) ImageFault) → read_gated image (read_batch l) (Log l) s ≡ o → and_then o (λ more. read_logs image (init ++ k ∷ []) more) ≡ Ok t
-          → ((u : List Batch) → read_logs image (init ++ k ∷ []) u ≡ Ok t → last_number t < batch.first → read_logs after (init ++ k ∷ []) u ≡ Ok (t ++ batch ∷ []))
+      by : (o : Result (List BatchInLog) ImageFault) → read_gated image (read_batch l) (Log l) s ≡ o → and_then o (λ more. read_logs image (init ++ k ∷ []) more) ≡ Ok t
+          → ((u : List BatchInLog) → read_logs image (init ++ k ∷ []) u ≡ Ok t → last_number t < batch.first → read_logs after (init ++ k ∷ []) u ≡ Ok (t ++ batch ∷ []))
           → and_then (read_gated after (read_batch l) (Log l) s) (λ more. read_logs after (init ++ k ∷ []) more) ≡ Ok (t ++ batch ∷ [])
       by (Err f) e is' further = absurd (let both : Err f ≡ Ok t = is' in cc)
       by (Ok u) e is' further =
-          ap (λ (r : Result (List Batch) ImageFault). and_then r (λ more. read_logs after (init ++ k ∷ []) more)) (gated_same image after (read_batch l) (Log l) s (others l apart.0) ∙ e)
+          ap (λ (r : Result (List BatchInLog) ImageFault). and_then r (λ more. read_logs after (init ++ k ∷ []) more)) (gated_same image after (read_batch l) (Log l) s (others l apart.0) ∙ e)
           ∙ further u is' late
 
-spelled : (log at : ℕ) (b : log_spelling.Batch) → IsBatch b → log_at log at (log_spelling.spelling b) ≡ Ok (batch_placed log at b)
+spelled : (log at : ℕ) (b : Batch) → IsBatch b → log_at log at (batch_spelling b) ≡ Ok (batch_placed log at b)
 unfolding log_at
-spelled log at b limits = ap (λ (r : Result log_spelling.Batch Misread). and_then (from at r) (λ x. Ok (batch_placed log at x))) (log_again b limits)
+spelled log at b limits = ap (λ (r : Result Batch Misread). and_then (from at r) (λ x. Ok (batch_placed log at x))) (log_again b limits)
 
 records_are : (at : ℕ) (records : List LogRecord) → map (λ r. r.it) (records_placed at records) ≡ records
 records_are at [] = refl
-records_are at (r ∷ records) = ap (λ l. r ∷ l) (records_are (at + length (log_spelling.record_spelling r)) records)
+records_are at (r ∷ records) = ap (λ l. r ∷ l) (records_are (at + length (log_record_spelling r)) records)
 
 -- ---- an image before a batch and after it
 
-module _ (shards shard : ℕ) (image after : Contents) (m : Mark) (marks : List Mark) (start : Start) (C : List Change) (before : IsBefore shards shard image (m ∷ marks) start C) (tops : List LogTop)
+module _ (shards shard : ℕ) (image after : Contents) (m : Mark) (marks : List Mark) (start : Start) (C : List Change) (before : MayBeWrittenOn shards shard image (m ∷ marks) start C) (tops : List LogTop)
     (logs : map (λ t. t.log) tops ≡ remaining_logs (m ∷ marks)) (shown : ShowTops (m ∷ marks) tops image) where
   abbrev k : ℕ
   k = current (m ∷ marks)
@@ -98,7 +97,7 @@ module _ (shards shard : ℕ) (image after : Contents) (m : Mark) (marks : List 
   within = marks_within image (m ∷ marks) before.marks_are
 
   -- without a batch
-  pub shown_same : ((l : ℕ) → gates (after (Log l)) ≡ gates (image (Log l))) → ShowTops (m ∷ marks) (raised None tops) after
+  pub shown_same : ((l : ℕ) → gates (after (Log l)) ≡ gates (image (Log l))) → ShowTops (m ∷ marks) (last_top_raised None tops) after
   shown_same same = record {
     batches = shown.batches;
     read = logs_same image after same (remaining_logs (m ∷ marks)) [] ∙ shown.read;
@@ -106,7 +105,7 @@ module _ (shards shard : ℕ) (image after : Contents) (m : Mark) (marks : List 
   }
 
   module _ (E : List Change) (follow : Follow start C E) (others : (l : ℕ) → l ≢ k → gates (after (Log l)) ≡ gates (image (Log l))) (more : HasBatch image after k start C E) where
-    abbrev batch : Batch
+    abbrev batch : BatchInLog
     batch = batch_placed k ((gates (image (Log k))).end + 9) (batch_of start C E)
 
     stands : ImageStands image (m ∷ marks) start C
@@ -116,15 +115,15 @@ module _ (shards shard : ℕ) (image after : Contents) (m : Mark) (marks : List 
     same_batches = let both : Ok stands.batches ≡ Ok shown.batches = sym stands.logs_read ∙ shown.read in cc
 
     late : last_number shown.batches < next_change start C
-    late = subst (λ (l : List Batch). last_number l < next_change start C) same_batches
+    late = subst (λ (l : List BatchInLog). last_number l < next_change start C) same_batches
         (last_number_below (next_change start C) stands.batches (let u = upto_below (files_as (m ∷ marks) stands.keys stands.blocks stands.batches) start C stands.stand in omega arith)
         (lasts_below (files_as (m ∷ marks) stands.keys stands.blocks stands.batches) start C stands.stand))
 
-    own : (s t : List Batch) → read_gated image (read_batch k) (Log k) s ≡ Ok t → last_number t < next_change start C → read_gated after (read_batch k) (Log k) s ≡ Ok (t ++ batch ∷ [])
+    own : (s t : List BatchInLog) → read_gated image (read_batch k) (Log k) s ≡ Ok t → last_number t < next_change start C → read_gated after (read_batch k) (Log k) s ≡ Ok (t ++ batch ∷ [])
     own s t is later =
         let test : nat_lt (last_number t) (next_change start C) ≡ true = grind arith in
-        gated_more image after (read_batch k) (Log k) s t (t ++ batch ∷ []) (log_spelling.spelling (batch_of start C E)) more is
-        (ap (λ (r : Reads Batch). and_then r (λ b. if nat_lt (last_number t) b.first then Ok (t ++ b ∷ []) else wrong ((gates (image (Log k))).end + 9 + 1) Order))
+        gated_more image after (read_batch k) (Log k) s t (t ++ batch ∷ []) (batch_spelling (batch_of start C E)) more is
+        (ap (λ (r : Reads BatchInLog). and_then r (λ b. if nat_lt (last_number t) b.first then Ok (t ++ b ∷ []) else damage_at ((gates (image (Log k))).end + 9 + 1) Order))
         (spelled k ((gates (image (Log k))).end + 9) (batch_of start C E) follow.batch) ∙ rw test refl)
 
     read : read_logs after (remaining_logs (m ∷ marks)) [] ≡ Ok (shown.batches ++ batch ∷ [])
@@ -137,7 +136,7 @@ module _ (shards shard : ℕ) (image after : Contents) (m : Mark) (marks : List 
         ∙ ap (λ l. greater (greatest_of (filter_map put_window l)) (top_of k shown.batches)) (records_are ((gates (image (Log k))).end + 9 + 17) (log_records_of start C E))
         ∙ ap (λ w. greater w (top_of k shown.batches)) (windows_are start C E)
 
-    pub shown_more : ShowTops (m ∷ marks) (raised (greatest_window (waiting_after start C E)) tops) after
+    pub shown_more : ShowTops (m ∷ marks) (last_top_raised (greatest_window (waiting_after start C E)) tops) after
     shown_more = record {
       batches = shown.batches ++ batch ∷ [];
       read = read;

@@ -9,7 +9,7 @@ use Rattle.gor_marks.specs.declared.mark.Mark.{Mark}
 use Rattle.gor_marks.specs.declared.mark.Mark.TheVariants.{Home, Sealed}
 use Rattle.gor_image.specs.Images.{current, base_of, first_log_of, or_zero, sealed_window, sealed_first_log, live_windows}
 use Rattle.gor_image.specs.Recovery.{is_above}
-use Rattle.gor_image.specs.MarkLists.{MayFollow, AllFollow, AreMarks, AreMarksOrNone}
+use Rattle.gor_image.specs.MarkLists.{MarkMayFollow, AllFollow, AreMarks, AreMarksOrNone}
 use Rattle.gor_flush.specs.Dropping.{AreSomeMarks}
 use Rattle.gor_image.proofs.ReadBack.{unless, not_false}
 
@@ -30,7 +30,7 @@ module _ (s : List Mark) (w k u f : ℕ) where
   live_push = ap (λ (o : Option ℕ). filter (λ v. nat_lt (or_zero o) (v + 12)) (filter_map sealed_window (s ++ Sealed w k u f ∷ []))) window_push ∙ ap (filter (λ v. nat_lt w (v + 12))) windows_push
 
   -- the numbers of a mark that follows
-  pub follows : MayFollow s (Sealed w k u f) → (k ≡ current s + 1) × (f ≤ k) × (first_log_of s ≤ f)
+  pub follows : MarkMayFollow s (Sealed w k u f) → (k ≡ current s + 1) × (f ≤ k) × (first_log_of s ≤ f)
   follows may =
       let p = unless (not (is_above (base_of s).window w)) _ _ (s ++ Sealed w k u f ∷ []) may.rises in
       let q = unless (not (nat_eq k (current s + 1))) _ _ (s ++ Sealed w k u f ∷ []) p.1 in
@@ -41,14 +41,14 @@ module _ (s : List Mark) (w k u f : ℕ) where
       (number, may.limits.first_log, first)
 
 -- the last of those that follow
-last_follows : (before xs : List Mark) (m : Mark) → AllFollow before (xs ++ m ∷ []) → MayFollow (before ++ xs) m
-last_follows before [] m all = subst (λ (l : List Mark). MayFollow l m) (sym (append-nil before)) all.0
-last_follows before (x ∷ xs) m all = subst (λ (l : List Mark). MayFollow l m) (append_assoc before (x ∷ []) xs) (last_follows (before ++ x ∷ []) xs m all.1)
+last_follows : (before xs : List Mark) (m : Mark) → AllFollow before (xs ++ m ∷ []) → MarkMayFollow (before ++ xs) m
+last_follows before [] m all = subst (λ (l : List Mark). MarkMayFollow l m) (sym (append-nil before)) all.0
+last_follows before (x ∷ xs) m all = subst (λ (l : List Mark). MarkMayFollow l m) (append_assoc before (x ∷ []) xs) (last_follows (before ++ x ∷ []) xs m all.1)
 
 -- a list of marks ends with its home alone, or with a mark that follows those before it
 pub data LastMark (shards shard : ℕ) (s : List Mark) (m : Mark) : Type 0 where
   First : s ≡ [] → m ≡ Home shards shard → LastMark shards shard s m
-  Later : MayFollow s m → LastMark shards shard s m
+  Later : MarkMayFollow s m → LastMark shards shard s m
 
 pub last_mark : (shards shard : ℕ) (s : List Mark) (m : Mark) → AreMarks shards shard (s ++ m ∷ []) → LastMark shards shard s m
 last_mark shards shard [] m are = First refl are.0
@@ -59,9 +59,9 @@ some_end shards shard [] m are = are
 some_end shards shard (x ∷ xs) m are = are
 
 -- a sealed last mark follows those before it
-pub follows_last : (s : List Mark) (w k u f : ℕ) → AreSomeMarks (s ++ Sealed w k u f ∷ []) → MayFollow s (Sealed w k u f)
+pub follows_last : (s : List Mark) (w k u f : ℕ) → AreSomeMarks (s ++ Sealed w k u f ∷ []) → MarkMayFollow s (Sealed w k u f)
 follows_last s w k u f some = by (last_mark some.shards some.shard s (Sealed w k u f) (some_end some.shards some.shard s (Sealed w k u f) some.are)) where
-  by : LastMark some.shards some.shard s (Sealed w k u f) → MayFollow s (Sealed w k u f)
+  by : LastMark some.shards some.shard s (Sealed w k u f) → MarkMayFollow s (Sealed w k u f)
   by (First none is) = absurd (cc)
   by (Later may) = may
 

@@ -11,20 +11,20 @@ use Rattle.gor_marks.specs.declared.mark.Mark.{Mark}
 use Rattle.gor_marks.specs.declared.mark.Mark.TheVariants.{Home}
 use Rattle.gor_image.specs.declared.fault.ImageFault.{ImageFault}
 use Rattle.gor_recover.specs.declared.recovered.LogTop.{LogTop}
-use Rattle.gor_image.specs.Records.{Batch, Files}
+use Rattle.gor_image.specs.Records.{BatchInLog, Files}
 use Rattle.gor_image.specs.Recovery.{ShardMap}
 use Rattle.gor_image.specs.Grammars.{Reads, and_then}
-use Rattle.gor_image.specs.Holding.{start_of}
+use Rattle.gor_image.specs.Holding.{start_of_map}
 use Rattle.gor_image.specs.Fit.{IsFitFor, FitHolds}
 use Rattle.gor_image.specs.Images.{read_walk, read_gated, read_mark, read_keys, read_batch, read_logs, read_blocks, read_files, marks_of, map_of, map_of_marks, map_of_files, current, base_of, first_log_of, live_windows, remaining_logs, same_home, fresh_map}
 use Rattle.gor_image.specs.Appends.{keys_from, files_as}
-use Rattle.gor_image.specs.Laws.{IsBefore}
+use Rattle.gor_image.specs.Laws.{MayBeWrittenOn}
 use Rattle.gor_image.proofs.Openings.{begins_itself, no_mark_is_fresh}
 use Rattle.gor_image.proofs.Pushed.{in_file_ok}
 use Rattle.gor_image.proofs.ReadBack.{only_where, after_ok}
 use Rattle.gor_image.proofs.FitStands.{marks_within}
-use Rattle.gor_image.specs.ReadFiles.{KeepsBefore, ReadsAs}
-use Rattle.gor_flush.specs.Opening.{AreWhole, Begins, HoldsOn, IsBegun, IsFresh, IsOpened, IsStore, IsUnmarked, is_current}
+use Rattle.gor_image.specs.ReadFiles.{KeepsBefore, ReadsAsGiven}
+use Rattle.gor_flush.specs.Opening.{NoneIsCut, BeginsStore, HoldsOn, HasFirstMark, ShowsNothing, DiskIsOpened, IsStore, IsUnmarked, is_current}
 use Rattle.gor_flush.proofs.Ensures.{as_seen}
 use Rattle.gor_image.proofs.ReadFiles.{same_logs}
 use Rattle.gor_flush.proofs.Steps.{same_contents}
@@ -34,7 +34,7 @@ use Rattle.gor_flush.proofs.Steps.{same_contents}
 read_whole : {S : Type 0} (given : Contents) (read : S → ℕ → List ℕ → Reads S) (file : FileId) (s t : S) → read_gated given read file s ≡ Ok t → (gates (given file)).whole ≡ true
 read_whole given read file s t is = (only_where (gates (given file)).whole _ _ t (in_file_ok file (read_walk read s (gates (given file))) t is)).0
 
-logs_whole : (given : Contents) (a n : ℕ) (s t : List Batch) → read_logs given (range_with_len a n) s ≡ Ok t → (l : ℕ) → a ≤ l → l < a + n → (gates (given (Log l))).whole ≡ true
+logs_whole : (given : Contents) (a n : ℕ) (s t : List BatchInLog) → read_logs given (range_with_len a n) s ≡ Ok t → (l : ℕ) → a ≤ l → l < a + n → (gates (given (Log l))).whole ≡ true
 logs_whole given a zero s t is l low high = absurd (omega arith)
 logs_whole given a (suc n) s t is l low high =
     let u = after_ok (read_gated given (read_batch a) (Log a) s) (λ more. read_logs given (range_with_len (a + 1) n) more) t is in
@@ -44,7 +44,7 @@ logs_whole given a (suc n) s t is l low high =
     (cases_lt a l)
 
 module _ (shards shard : ℕ) (given : Contents) where
-  pub store_whole : (list : List Mark) (shown : List LogTop) → list ≢ [] → IsStore shards shard given list shown → AreWhole (current list) given
+  pub store_whole : (list : List Mark) (shown : List LogTop) → list ≢ [] → IsStore shards shard given list shown → NoneIsCut (current list) given
   store_whole [] shown some store f is_in = absurd (some refl)
   store_whole (m ∷ marks) shown some store f is_in = at f is_in where
     of_marks : map_of_marks given shards shard (m ∷ marks) ≡ Ok store.map
@@ -72,14 +72,14 @@ module _ (shards shard : ℕ) (given : Contents) where
   -- ---- a store that is there
 
   pub store_holds : (list : List Mark) (shown : List LogTop) (old new : DiskView) → list ≢ [] → old.seen ≡ given → NothingPending old → IsStore shards shard given list shown → KeepsBefore list old new
-      → IsFitFor shards shard given → (map : ShardMap) → map_of given shards shard ≡ Ok map → (slots : ℕ) → LeavesSince old.moment new (λ image. IsBefore shards shard image list (start_of slots map) [])
+      → IsFitFor shards shard given → (map : ShardMap) → map_of given shards shard ≡ Ok map → (slots : ℕ) → LeavesSince old.moment new (λ image. MayBeWrittenOn shards shard image list (start_of_map slots map) [])
   store_holds [] shown old new some is pending store kept fit map reads slots = absurd (some refl)
-  store_holds (m ∷ marks) shown old new some is pending store kept fit map reads slots = kept shards shard (start_of slots map) [] at_first where
-    at_first : LeavesSince old.moment old (λ image. IsBefore shards shard image (m ∷ marks) (start_of slots map) [])
+  store_holds (m ∷ marks) shown old new some is pending store kept fit map reads slots = kept shards shard (start_of_map slots map) [] at_first where
+    at_first : LeavesSince old.moment old (λ image. MayBeWrittenOn shards shard image (m ∷ marks) (start_of_map slots map) [])
     at_first k image low high here =
         let now : k ≡ old.moment = omega arith in
         let same : given ≡ image = sym is ∙ sym (same_contents image old.seen (λ f. as_seen old f (image f) (pending f) (subst (λ j. IsImage (old.held j f) (image f)) now (here f)))) in
-        subst (λ (c : Contents). IsBefore shards shard c (m ∷ marks) (start_of slots map) []) same (begins_itself shards shard given m marks map slots fit store.marks reads)
+        subst (λ (c : Contents). MayBeWrittenOn shards shard c (m ∷ marks) (start_of_map slots map) []) same (begins_itself shards shard given m marks map slots fit store.marks reads)
 
   -- ---- a fresh one
 
@@ -91,24 +91,24 @@ module _ (shards shard : ℕ) (given : Contents) where
   pub fit_unmarked : IsFitFor shards shard given → marks_of given ≡ Ok [] → IsUnmarked given
   fit_unmarked fit none = record { marks = none; closed = fit.closed }
 
-  pub fresh_holds : (old new : DiskView) → old.seen ≡ given → NothingPending old → marks_of given ≡ Ok [] → Begins shards shard old new → HoldsOn shards shard given old new
-  fresh_holds old new is pending none begins fit map reads slots k image low high here = subst (λ (p : ShardMap). FitHolds shards shard image (start_of slots p) []) (fresh_is map none reads)
-      (⊎_elim (λ (un : IsUnmarked image). no_mark_is_fresh shards shard image slots un.marks un.closed) (λ (begun : IsBegun shards shard image). (begun slots).fit) (begins at_first k image low high here)) where
+  pub fresh_holds : (old new : DiskView) → old.seen ≡ given → NothingPending old → marks_of given ≡ Ok [] → BeginsStore shards shard old new → HoldsOn shards shard given old new
+  fresh_holds old new is pending none begins fit map reads slots k image low high here = subst (λ (p : ShardMap). FitHolds shards shard image (start_of_map slots p) []) (fresh_is map none reads)
+      (⊎_elim (λ (un : IsUnmarked image). no_mark_is_fresh shards shard image slots un.marks un.closed) (λ (begun : HasFirstMark shards shard image). (begun slots).fit) (begins at_first k image low high here)) where
         at_first : LeavesSince old.moment old IsUnmarked
         at_first j im down up there =
             let now : j ≡ old.moment = omega arith in
             let same : given ≡ im = sym is ∙ sym (same_contents im old.seen (λ f. as_seen old f (im f) (pending f) (subst (λ i. IsImage (old.held i f) (im f)) now (there f)))) in
             subst IsUnmarked same (fit_unmarked fit none)
 
-  pub fresh_opened : (shown : List LogTop) (new : DiskView) → IsFresh given shown → (IsUnmarked given → IsBegun shards shard new.seen) → NothingPending new → read_logs new.seen (0 ∷ []) [] ≡ Ok [] → IsOpened shards shard given (Home shards shard ∷ []) shown new
+  pub fresh_opened : (shown : List LogTop) (new : DiskView) → ShowsNothing given shown → (IsUnmarked given → HasFirstMark shards shard new.seen) → NothingPending new → read_logs new.seen (0 ∷ []) [] ≡ Ok [] → DiskIsOpened shards shard given (Home shards shard ∷ []) shown new
   fresh_opened shown new fresh begun pending logs = record {
     pending = pending;
-    before = λ fit map reads slots. subst (λ (p : ShardMap). IsBefore shards shard new.seen (Home shards shard ∷ []) (start_of slots p) []) (fresh_is map fresh.marks reads) (begun (fit_unmarked fit fresh.marks) slots);
+    before = λ fit map reads slots. subst (λ (p : ShardMap). MayBeWrittenOn shards shard new.seen (Home shards shard ∷ []) (start_of_map slots p) []) (fresh_is map fresh.marks reads) (begun (fit_unmarked fit fresh.marks) slots);
     tops = record { batches = []; read = logs; tops = fresh.tops };
   }
 
   pub store_opened : (list : List Mark) (shown : List LogTop) (old new : DiskView) → list ≢ [] → old.seen ≡ given → NothingPending old → old.moment ≤ new.moment → ((f : FileId) → IsImage (held_now new f) (new.seen f)) → IsStore shards shard given list shown → KeepsBefore list old new
-      → NothingPending new → ReadsAs list given new.seen → IsOpened shards shard given list shown new
+      → NothingPending new → ReadsAsGiven list given new.seen → DiskIsOpened shards shard given list shown new
   store_opened list shown old new some is pending later stays store kept rest reads = record {
     pending = rest;
     before = λ fit map maps slots. store_holds list shown old new some is pending store kept fit map maps slots new.moment new.seen later (omega arith) stays;

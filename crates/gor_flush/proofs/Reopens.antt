@@ -6,20 +6,20 @@ use Rattle.std.proofs.lemmas.Bool.{le-leb}
 use Rattle.gor_disk.specs.declared.disk.FileId.{FileId}
 use Rattle.gor_disk.specs.declared.disk.FileId.TheVariants.{Marks, Keys, Log, Block}
 use Rattle.gor_disk.specs.Disk.{DiskView, Contents, IsImage, IsSettled, NothingPending, Runs, held_now}
-use Rattle.gor_gate.specs.Gates.{gates, IsClosed, IsReady}
-use Rattle.gor_gate.specs.Places.{Place, IsEnsured}
+use Rattle.gor_gate.specs.Gates.{gates, IsClosed, ListEndsAt}
+use Rattle.gor_gate.specs.Places.{GatedPlace, IsEnsured}
 use Rattle.gor_gate.proofs.Ensured.{closed_if_ready}
 use Rattle.gor_model.specs.declared.event.Change.{Change}
 use Rattle.gor_model.specs.declared.start.Start.{Start}
 use Rattle.gor_marks.specs.declared.mark.Mark.{Mark}
 use Rattle.gor_image.specs.Images.{current, first_log_of}
 use Rattle.gor_recover.specs.Openings.{OnlyRead}
-use Rattle.gor_image.specs.Laws.{IsBefore, AreClosed}
+use Rattle.gor_image.specs.Laws.{MayBeWrittenOn, AreClosed}
 use Rattle.gor_flush.specs.declared.files.CurrentFiles.{CurrentFiles}
-use Rattle.gor_image.specs.ReadFiles.{is_read, is_replaced, ReadAlike, ReadsAs, KeepsBefore}
+use Rattle.gor_image.specs.ReadFiles.{is_read, is_replaced, ReadAlike, ReadsAsGiven, KeepsBefore}
 use Rattle.gor_image.specs.DiskSteps.{Leaves, GoesOn}
 use Rattle.gor_flush.specs.Dropping.{AreSomeMarks, AreDropped}
-use Rattle.gor_flush.specs.Opening.{AreFiles, AreEnsured, is_current, IsSameStore, IsAtRest}
+use Rattle.gor_flush.specs.Opening.{AreFiles, AreEnsured, is_current, HasSameLists, FilesAtRest}
 use Rattle.gor_image.proofs.ReadFiles.{reads_hold, store}
 use Rattle.gor_flush.proofs.Steps.{reads_keep, leaves_settled, gone_settled, runs_keep, keeps_then}
 use Rattle.gor_image.proofs.Kept.{alike, read_not_replaced}
@@ -43,7 +43,7 @@ alike_if number f a b list bytes = at (is_current number f) refl where
   at false e = alike f a b (bytes e)
 
 module _ (shards shard : ℕ) (given image : Contents) (m : Mark) (marks : List Mark) (start : Start) (C : List Change)
-    (before : IsBefore shards shard given (m ∷ marks) start C) (same : IsSameStore (current (m ∷ marks)) given image) where
+    (before : MayBeWrittenOn shards shard given (m ∷ marks) start C) (same : HasSameLists (current (m ∷ marks)) given image) where
   number : ℕ
   number = current (m ∷ marks)
 
@@ -56,7 +56,7 @@ module _ (shards shard : ℕ) (given image : Contents) (m : Mark) (marks : List 
   itself : (n : ℕ) → nat_eq n n ≡ true
   itself n = grind arith
 
-  pub same_before : IsBefore shards shard image (m ∷ marks) start C
+  pub same_before : MayBeWrittenOn shards shard image (m ∷ marks) start C
   same_before = reads_hold shards shard given m marks start C before image (record {
     each = λ f is_in. alike_if (current (m ∷ marks)) f (image f) (given f) (λ now. (same.lists f now (closed_files f now)).0) (λ out. same.others f out);
     closed = record {
@@ -67,20 +67,20 @@ module _ (shards shard : ℕ) (given image : Contents) (m : Mark) (marks : List 
   })
 
 -- ensuring keeps what every image holds
-pub ensuring_keeps : (marks : List Mark) (old new : DiskView) → marks ≢ [] → ((f : FileId) → IsImage (held_now old f) (old.seen f)) → Runs (IsSameStore (current marks) old.seen) old new → KeepsBefore marks old new
+pub ensuring_keeps : (marks : List Mark) (old new : DiskView) → marks ≢ [] → ((f : FileId) → IsImage (held_now old f) (old.seen f)) → Runs (HasSameLists (current marks) old.seen) old new → KeepsBefore marks old new
 ensuring_keeps [] old new some stays runs shards shard start C = absurd (some refl)
 ensuring_keeps (m ∷ marks) old new some stays runs shards shard start C =
-    runs_keep (IsSameStore (current (m ∷ marks)) old.seen) (λ image. IsBefore shards shard image (m ∷ marks) start C) old new stays runs (λ image before same. same_before shards shard old.seen image m marks start C before same)
+    runs_keep (HasSameLists (current (m ∷ marks)) old.seen) (λ image. MayBeWrittenOn shards shard image (m ∷ marks) start C) old new stays runs (λ image before same. same_before shards shard old.seen image m marks start C before same)
 
 pub before_then : (marks : List Mark) (old mid new : DiskView) → GoesOn old mid → GoesOn mid new → KeepsBefore marks old mid → KeepsBefore marks mid new → KeepsBefore marks old new
-before_then marks old mid new first next kept more shards shard start C = keeps_then (λ image. IsBefore shards shard image marks start C) old mid new first next (kept shards shard start C) (more shards shard start C)
+before_then marks old mid new first next kept more shards shard start C = keeps_then (λ image. MayBeWrittenOn shards shard image marks start C) old mid new first next (kept shards shard start C) (more shards shard start C)
 
 -- ---- and then the replaced files are cut
 
-leaves_ensured : (which : FileId → Bool) (old new : DiskView) (gated : Place) → Leaves which old new → which gated.file ≡ false → IsEnsured gated old → IsEnsured gated new
+leaves_ensured : (which : FileId → Bool) (old new : DiskView) (gated : GatedPlace) → Leaves which old new → which gated.file ≡ false → IsEnsured gated old → IsEnsured gated new
 leaves_ensured which old new gated leaves out ensured = record {
   settled = leaves_settled which old new leaves gated.file out ensured.settled;
-  ready = subst (λ b. IsReady b gated.gate) (sym (leaves.other_bytes gated.file out)) ensured.ready;
+  ready = subst (λ b. ListEndsAt b gated.gate) (sym (leaves.other_bytes gated.file out)) ensured.ready;
 }
 
 module _ (marks : List Mark) (some : AreSomeMarks marks) (files : CurrentFiles) (are : AreFiles (current marks) files) where
@@ -110,7 +110,7 @@ module _ (marks : List Mark) (some : AreSomeMarks marks) (files : CurrentFiles) 
     log = subst (λ f. IsClosed (disk.seen f)) are.log (closed_if_ready (disk.seen files.log.file) files.log.gate ensured.log.ready);
   }
 
-  pub all_read : (given : Contents) (mid new : DiskView) → IsAtRest (current marks) given mid → Leaves (is_replaced marks) mid new → AreEnsured files new → ReadsAs marks given new.seen
+  pub all_read : (given : Contents) (mid new : DiskView) → FilesAtRest (current marks) given mid → Leaves (is_replaced marks) mid new → AreEnsured files new → ReadsAsGiven marks given new.seen
   all_read given mid new rest leaves ensured = record {
     each = λ f is_in.
         let same : new.seen f ≡ mid.seen f = leaves.other_bytes f (read_not_replaced marks f is_in) in
@@ -125,4 +125,4 @@ all_settled marks mid new pending leaves dropped f = at (is_replaced marks f) re
   at false e = leaves_settled (is_replaced marks) mid new leaves f e (pending f)
 
 pub reading_keeps : (marks : List Mark) (old new : DiskView) → OnlyRead old new → KeepsBefore marks old new
-reading_keeps marks old new reads shards shard start C = reads_keep (λ image. IsBefore shards shard image marks start C) old new reads
+reading_keeps marks old new reads shards shard start C = reads_keep (λ image. MayBeWrittenOn shards shard image marks start C) old new reads

@@ -10,9 +10,9 @@ use Rattle.gor_disk.specs.declared.disk.FileId.TheVariants.{Marks, Keys, Log, Bl
 use Rattle.gor_marks.specs.declared.mark.Mark.{Mark}
 use Rattle.gor_marks.specs.declared.mark.Mark.TheVariants.{Home, Sealed}
 use Rattle.gor_image.specs.Images.{current, base_of, first_log_of, or_zero, sealed_window, live_windows}
-use Rattle.gor_image.specs.MarkLists.{MayFollow}
+use Rattle.gor_image.specs.MarkLists.{MarkMayFollow}
 use Rattle.gor_image.specs.ReadFiles.{is_read, earlier, is_replaced}
-use Rattle.gor_flush.specs.Dropping.{is_log_in, is_block_of, drops, is_this_list}
+use Rattle.gor_flush.specs.Dropping.{is_log_in, is_dropped_block, drops, is_this_list}
 use Rattle.gor_flush.proofs.MarkLists.{current_push, first_log_push, live_push, follows}
 
 earlier_push : (s : List Mark) (m : Mark) → earlier (s ++ m ∷ []) ≡ s
@@ -50,7 +50,7 @@ any_drops before window v (Sealed w k u f ∷ s) = at (any_drops before window v
         both false c = refl
   at rest false e = rw e rest
 
-module _ (s : List Mark) (w k u f : ℕ) (may : MayFollow s (Sealed w k u f)) where
+module _ (s : List Mark) (w k u f : ℕ) (may : MarkMayFollow s (Sealed w k u f)) where
   numbers : (k ≡ current s + 1) × (f ≤ k) × (first_log_of s ≤ f)
   numbers = follows s w k u f may
 
@@ -123,7 +123,7 @@ module _ (s : List Mark) (w k u f : ℕ) (may : MayFollow s (Sealed w k u f)) wh
         table true true false c = refl
 
   -- these files alone are replaced
-  pub replaced_is : (x : FileId) → is_replaced (s ++ m ∷ []) x ≡ (is_this_list (k - 1) x || (is_log_in (first_log_of s) f x || is_block_of (or_zero (base_of s).window) w s x))
+  pub replaced_is : (x : FileId) → is_replaced (s ++ m ∷ []) x ≡ (is_this_list (k - 1) x || (is_log_in (first_log_of s) f x || is_dropped_block (or_zero (base_of s).window) w s x))
   replaced_is x = ap (λ (l : List Mark). is_read l x && not (is_read (s ++ m ∷ []) x)) (earlier_push s m) ∙ by x where
     or_no : (b : Bool) → (b || (false || false)) ≡ b
     or_no true = refl
@@ -133,7 +133,7 @@ module _ (s : List Mark) (w k u f : ℕ) (may : MayFollow s (Sealed w k u f)) wh
     or_right true = refl
     or_right false = refl
 
-    by : (y : FileId) → (is_read s y && not (is_read (s ++ m ∷ []) y)) ≡ (is_this_list (k - 1) y || (is_log_in (first_log_of s) f y || is_block_of (or_zero (base_of s).window) w s y))
+    by : (y : FileId) → (is_read s y && not (is_read (s ++ m ∷ []) y)) ≡ (is_this_list (k - 1) y || (is_log_in (first_log_of s) f y || is_dropped_block (or_zero (base_of s).window) w s y))
     by Marks = refl
     by (Keys n) = ap (λ c. nat_eq n (current s) && not (nat_eq n c)) (current_push s w k u f) ∙ list_is n ∙ sym (or_no (nat_eq n (k - 1)))
     by (Log l) =

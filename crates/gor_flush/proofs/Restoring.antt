@@ -7,7 +7,7 @@ use Rattle.gor_disk.specs.Names.{same_file, with_file}
 use Rattle.gor_disk.proofs.Lookups.{same_is, same_refl}
 use Rattle.gor_disk.proofs.Restored.{put_here, put_other}
 use Rattle.gor_gate.specs.Gates.{gates}
-use Rattle.gor_image.specs.Appends.{OthersStay}
+use Rattle.gor_image.specs.Appends.{OtherListsStay}
 use Rattle.gor_image.specs.Laws.{HaveSameLists}
 
 pub told : (a b : FileId) → (a ≡ b) ⊎ (a ≢ b)
@@ -49,7 +49,7 @@ module _ (k : ℕ) (old : DiskView) (image : Contents) where
   keys_apart : (l : ℕ) → l ≢ k → Keys l ≢ Keys k
   keys_apart l apart e = apart (ap key_number e)
 
-  pub others_stay : OthersStay entry image k
+  pub others_stay : OtherListsStay entry image k
   others_stay = record {
     marks = refl;
     blocks = λ w. refl;

@@ -12,23 +12,22 @@ use Rattle.gor_model.specs.Answers.{Legal}
 use Rattle.gor_model.specs.PlainMap.{next_change}
 use Rattle.gor_model.specs.Shares.{Besides, OfSeries, Begins, Frees, Nothing, Buffered}
 use Rattle.gor_model.specs.Starts.{IsStart}
-use Rattle.gor_gate.specs.Gates.{Walk, pushed}
+use Rattle.gor_gate.specs.Gates.{Walk, body_pushed}
 use Rattle.gor_keys.specs.declared.record.KeyRecord.{KeyRecord}
-use Rattle.gor_keys.specs.Spelling.{AreRecords, spelling}
-use Rattle.gor_log.specs.Spelling.{IsBatch, IsRecord}
-use Rattle.gor_log.specs.Spelling as log_spelling
+use Rattle.gor_keys.specs.Spelling.{AreRecords, keys_spelling}
+use Rattle.gor_log.specs.Spelling.{IsBatch, IsLogRecord, batch_spelling}
 use Rattle.gor_log.specs.Reading.{batch}
 use Rattle.gor_journal.specs.Bodies.{stored}
-use Rattle.gor_journal.specs.Records.{created, logged, key_records as key_records_of, log_records as log_records_waiting, keys_spelled, batch_spelled}
+use Rattle.gor_journal.specs.Records.{created_by, logged, key_records_waiting, log_records_waiting, keys_spelled, batch_spelled}
 use Rattle.gor_journal.specs.Stands.{AreInLimits}
-use Rattle.gor_image.specs.ChangeRecords.{key_records, log_records_of, batch_of, key_record_by, log_record_by, waiting_after, key_records_by, log_records_by}
+use Rattle.gor_image.specs.ChangeRecords.{key_records_of, log_records_of, batch_of, key_record_by, log_record_by, waiting_after, key_records_by, log_records_by}
 use Rattle.gor_image.specs.Laws.{Follow}
 use Rattle.gor_image.proofs.Besides.{waiting_spells}
 use Rattle.gor_flush.specs.Flushes.{with_body}
 
 -- ---- the two spellings of one thing
 
-created_is : (n : ℕ) (c : Change) (b : Besides) → created n c b ≡ key_record_by n c b
+created_is : (n : ℕ) (c : Change) (b : Besides) → created_by n c b ≡ key_record_by n c b
 created_is n (change.Put name key t w) (OfSeries u) = refl
 created_is n (change.Put name key t w) (Begins u s f) = refl
 created_is n (change.Put name key t w) (Frees s) = refl
@@ -52,10 +51,10 @@ logged_is (change.Seal key w) (Begins u s f) = refl
 logged_is (change.Seal key w) (Frees s) = refl
 logged_is (change.Seal key w) Nothing = refl
 
-keys_are : (first : ℕ) (waits : List Buffered) → key_records_of first waits ≡ key_records_by first waits
+keys_are : (first : ℕ) (waits : List Buffered) → key_records_waiting first waits ≡ key_records_by first waits
 keys_are first [] = refl
 keys_are first (b ∷ older) =
-    ap (λ l. l ++ option_to_list (created (first + length older) b.change b.besides)) (keys_are first older)
+    ap (λ l. l ++ option_to_list (created_by (first + length older) b.change b.besides)) (keys_are first older)
     ∙ ap (λ o. key_records_by first older ++ option_to_list o) (created_is (first + length older) b.change b.besides)
 
 logs_are : (waits : List Buffered) → log_records_waiting waits ≡ log_records_by waits
@@ -66,7 +65,7 @@ logs_are (b ∷ older) =
 
 -- ---- what appending them gives
 
-pub keys_pushed : (rs : List KeyRecord) (list new : Walk) → new ≡ with_body (stored (keys_spelled rs)) list → ((rs ≡ []) × (new ≡ list)) ⊎ (new ≡ pushed (spelling Second rs) list)
+pub keys_pushed : (rs : List KeyRecord) (list new : Walk) → new ≡ with_body (stored (keys_spelled rs)) list → ((rs ≡ []) × (new ≡ list)) ⊎ (new ≡ body_pushed (keys_spelling Second rs) list)
 keys_pushed [] list new is = inl (refl, is)
 keys_pushed (r ∷ rs) list new is = inr is
 
@@ -75,7 +74,7 @@ waiting_long start C [] = refl
 waiting_long start C (c ∷ E) = let h = waiting_long start C E in omega arith
 
 module _ (start : Start) (C E : List Change) (history : History) (begins : IsStart start) (legal : Legal start history) (changes_are : changes history ≡ E ++ C) where
-  pub key_records_are : key_records_of (next_change start C) (waiting_after start C E) ≡ key_records start C E
+  pub key_records_are : key_records_waiting (next_change start C) (waiting_after start C E) ≡ key_records_of start C E
   key_records_are = keys_are (next_change start C) (waiting_after start C E) ∙ sym (waiting_spells start C E history begins legal changes_are).0
 
   pub log_records_are : log_records_waiting (waiting_after start C E) ≡ log_records_of start C E
@@ -96,7 +95,7 @@ module _ (start : Start) (C E : List Change) (history : History) (begins : IsSta
         batch = record {
           version = refl;
           range = record { some = omega arith; rises = omega arith; below = omega arith };
-          records = subst (AllByRecursion IsRecord) log_records_are limits.log;
+          records = subst (AllByRecursion IsLogRecord) log_records_are limits.log;
         };
       } where
         some_long : (E : List Change) → E ≢ [] → 1 ≤ length E
@@ -106,10 +105,10 @@ module _ (start : Start) (C E : List Change) (history : History) (begins : IsSta
 -- the batch of some changes
 pub batch_pushed : (start : Start) (C : List Change) (c : Change) (E : List Change) (list : Walk)
     → log_records_waiting (waiting_after start C (c ∷ E)) ≡ log_records_of start C (c ∷ E)
-    → with_body (stored (batch_spelled (next_change start C) (waiting_after start C (c ∷ E)))) list ≡ pushed (log_spelling.spelling (batch_of start C (c ∷ E))) list
+    → with_body (stored (batch_spelled (next_change start C) (waiting_after start C (c ∷ E)))) list ≡ body_pushed (batch_spelling (batch_of start C (c ∷ E))) list
 batch_pushed start C c E list records =
     let a = waiting_long start C E in
     let b = length-append E C in
     let last : next_change start C + length (waiting_after start C E) ≡ next_change start (c ∷ (E ++ C)) - 1 = omega arith in
-    ap (λ n. pushed (log_spelling.spelling (batch (next_change start C) n (log_records_waiting (waiting_after start C (c ∷ E))))) list) last
-    ∙ ap (λ l. pushed (log_spelling.spelling (batch (next_change start C) (next_change start (c ∷ (E ++ C)) - 1) l)) list) records
+    ap (λ n. body_pushed (batch_spelling (batch (next_change start C) n (log_records_waiting (waiting_after start C (c ∷ E))))) list) last
+    ∙ ap (λ l. body_pushed (batch_spelling (batch (next_change start C) (next_change start (c ∷ (E ++ C)) - 1) l)) list) records

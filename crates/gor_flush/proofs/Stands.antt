@@ -2,7 +2,7 @@
 use Rattle.std.proofs.Common.{◌≡◌, ℕ, ◌+◌, ◌≤◌, List, [], ◌∷◌, Bool, false, refl, sym, ◌∙◌, ap, subst, arith}
 use Rattle.std.specs.Prelude.{Ok, IsTrue}
 use Rattle.gor_disk.specs.Disk.{DiskView, Contents, IsImage, IsImageAt}
-use Rattle.gor_gate.specs.Places.{Place, IsEnsured}
+use Rattle.gor_gate.specs.Places.{GatedPlace, IsEnsured}
 use Rattle.gor_marks.specs.declared.mark.Mark.{Mark}
 use Rattle.gor_marks.specs.Spelling.{IsHome}
 use Rattle.gor_model.specs.declared.start.Start.{Start}
@@ -10,18 +10,18 @@ use Rattle.gor_model.specs.Shares.{device_share}
 use Rattle.gor_journal.specs.Bodies.{AreEmpty}
 use Rattle.gor_recover.specs.declared.recovered.LogTop.{LogTop}
 use Rattle.gor_recover.specs.declared.recovered.Recovered.{Recovered}
-use Rattle.gor_image.specs.Holding.{start_of}
+use Rattle.gor_image.specs.Holding.{start_of_map}
 use Rattle.gor_image.specs.Fit.{IsFitFor, FitHolds}
 use Rattle.gor_flush.specs.FitTest.{is_fit}
 use Rattle.gor_flush.proofs.FitTests.{fit_is_told}
-use Rattle.gor_flush.specs.Found.{Found}
+use Rattle.gor_flush.specs.Found.{IsFound}
 use Rattle.gor_image.specs.Images.{current, map_of}
-use Rattle.gor_image.specs.Laws.{IsBefore}
+use Rattle.gor_image.specs.Laws.{MayBeWrittenOn}
 use Rattle.gor_image.specs.MarkLists.{AreMarks, AreMarksOrNone, AreBehind}
 use Rattle.gor_recover.specs.Recovered.{AreTops, IsRecovered, recovered_start}
 use Rattle.gor_flush.specs.declared.files.CurrentFiles.{CurrentFiles}
-use Rattle.gor_flush.specs.Devices.{Shown, StandsFor, HoldsAll, ShowTops}
-use Rattle.gor_flush.specs.Opening.{AreFiles, AreEnsured, HoldsOn, IsOpened}
+use Rattle.gor_flush.specs.Devices.{Shown, DeviceStandsFor, HoldsAll, ShowTops}
+use Rattle.gor_flush.specs.Opening.{AreFiles, AreEnsured, HoldsOn, DiskIsOpened}
 use Rattle.gor_flush.specs.Preparing.{device_marks}
 use Rattle.gor_flush.specs.Starts.{opened_start, start_with}
 use Rattle.gor_image.specs.DiskSteps.{GoesOn}
@@ -80,7 +80,7 @@ module _ (slots : ℕ) (r : Recovered) (of which since faults : ℕ) (fit : Bool
     holds = record { map = held.holds.map; is = held.holds.is; state = record { floor = held.holds.state.floor; rows = held.holds.state.rows } };
   }
 
-  before_so : (shards shard : ℕ) (image : Contents) (marks : List Mark) → IsBefore shards shard image marks (recovered_start slots r) [] → IsBefore shards shard image marks (opened_start slots r of which since faults fit) []
+  before_so : (shards shard : ℕ) (image : Contents) (marks : List Mark) → MayBeWrittenOn shards shard image marks (recovered_start slots r) [] → MayBeWrittenOn shards shard image marks (opened_start slots r of which since faults fit) []
   unfolding recovered_start opened_start
   before_so shards shard image marks before = record {
     fit = record {
@@ -94,7 +94,7 @@ module _ (slots : ℕ) (r : Recovered) (of which since faults : ℕ) (fit : Bool
 -- ---- what the images hold
 
 module _ (d : Shown) (slots : ℕ) (r : Recovered) (old : DiskView) where
-  pub images_hold : d.opened ≡ old.moment → HoldsOn d.shards d.shard old.seen old d.disk → Found d.shards d.shard slots old.seen r → IsOpened d.shards d.shard old.seen d.list d.tops d.disk
+  pub images_hold : d.opened ≡ old.moment → HoldsOn d.shards d.shard old.seen old d.disk → IsFound d.shards d.shard slots old.seen r → DiskIsOpened d.shards d.shard old.seen d.list d.tops d.disk
       → IsFitFor d.shards d.shard old.seen → HoldsAll d (start_with slots r d) (device_share (start_with slots r d) [])
   images_hold opened holds found ready was = record {
     prefixes = λ k image low high here. record {
@@ -113,8 +113,8 @@ module _ (d : Shown) (slots : ℕ) (r : Recovered) (old : DiskView) where
         all = refl;
         exact = refl;
         before = before_so slots r d.shards d.shard d.opened d.begun (is_fit d.shards d.shard d.given) d.shards d.shard image d.list
-            (subst (λ (c : Contents). IsBefore d.shards d.shard c d.list (recovered_start slots r) []) (at_now k image low high here)
-            (subst (λ (s : Start). IsBefore d.shards d.shard d.disk.seen d.list s []) same (ready.before was found.map maps slots)));
+            (subst (λ (c : Contents). MayBeWrittenOn d.shards d.shard c d.list (recovered_start slots r) []) (at_now k image low high here)
+            (subst (λ (s : Start). MayBeWrittenOn d.shards d.shard d.disk.seen d.list s []) same (ready.before was found.map maps slots)));
       };
       tops = λ k image low high here. subst (λ (c : Contents). ShowTops d.list d.tops c) (at_now k image low high here) ready.tops;
     };
@@ -122,7 +122,7 @@ module _ (d : Shown) (slots : ℕ) (r : Recovered) (old : DiskView) where
     maps : map_of old.seen d.shards d.shard ≡ Ok found.map
     maps = opened_map d.shards d.shard slots old.seen found.map found.opens
 
-    same : start_of slots found.map ≡ recovered_start slots r
+    same : start_of_map slots found.map ≡ recovered_start slots r
     same = sym found.start
 
     at_now : (k : ℕ) (image : Contents) → d.disk.moment ≤ k → k ≤ d.disk.moment → IsImageAt d.disk k image → d.disk.seen ≡ image
@@ -131,11 +131,11 @@ module _ (d : Shown) (slots : ℕ) (r : Recovered) (old : DiskView) where
         sym (same_contents image d.disk.seen (λ f. as_seen d.disk f (image f) (ready.pending f) (subst (λ j. IsImage (d.disk.held j f) (image f)) now (here f))))
 
 -- what an opening that tells its contents gives
-pub record Told (d : Shown) (slots : ℕ) (r : Recovered) (old : DiskView) : Type 0 where
+pub record ToldOpening (d : Shown) (slots : ℕ) (r : Recovered) (old : DiskView) : Type 0 where
   pub goes : GoesOn old d.disk
   pub holds : HoldsOn d.shards d.shard old.seen old d.disk
-  pub found : Found d.shards d.shard slots old.seen r
-  pub ready : IsOpened d.shards d.shard old.seen d.list d.tops d.disk
+  pub found : IsFound d.shards d.shard slots old.seen r
+  pub ready : DiskIsOpened d.shards d.shard old.seen d.list d.tops d.disk
   pub ensured : IsEnsured d.marks d.disk × IsEnsured d.keys d.disk × IsEnsured d.log d.disk
 
 -- the device, field by field
@@ -153,7 +153,7 @@ pub record Made (d : Shown) (r : Recovered) : Type 0 where
   pub written : d.written ≡ 0
   pub faults : d.faults ≡ d.begun
 
-pub stands_open : (d : Shown) (slots : ℕ) (r : Recovered) (old : DiskView) → IsRecovered d.shards d.shard slots r → Made d r → d.opened ≡ old.moment → d.given ≡ old.seen → (IsTrue d.tells → Told d slots r old) → StandsFor d (start_with slots r d) (device_share (start_with slots r d) [])
+pub stands_open : (d : Shown) (slots : ℕ) (r : Recovered) (old : DiskView) → IsRecovered d.shards d.shard slots r → Made d r → d.opened ≡ old.moment → d.given ≡ old.seen → (IsTrue d.tells → ToldOpening d slots r old) → DeviceStandsFor d (start_with slots r d) (device_share (start_with slots r d) [])
 stands_open d slots r old recovered made opened given told = record {
   shards_are = of_is slots r d.shards d.shard d.opened d.begun (is_fit d.shards d.shard d.given);
   shard_is = which_is slots r d.shards d.shard d.opened d.begun (is_fit d.shards d.shard d.given);
@@ -187,7 +187,7 @@ stands_open d slots r old recovered made opened given told = record {
 pub moved : {A B X : Type 0} (P : A → B → X → Type 0) (a b : A) (c e : B) (x y : X) → a ≡ b → c ≡ e → x ≡ y → P a c x → P b e y
 moved P a b c e x y first second third holds = subst (λ i. P b e i) third (subst (λ i. P b i x) second (subst (λ i. P i c x) first holds))
 
-pub ensured_now : (marks keys log : Place) (files : CurrentFiles) (old new : DiskView) → files.marks ≡ marks → files.keys ≡ keys → files.log ≡ log → old ≡ new → AreEnsured files old → IsEnsured marks new × IsEnsured keys new × IsEnsured log new
+pub ensured_now : (marks keys log : GatedPlace) (files : CurrentFiles) (old new : DiskView) → files.marks ≡ marks → files.keys ≡ keys → files.log ≡ log → old ≡ new → AreEnsured files old → IsEnsured marks new × IsEnsured keys new × IsEnsured log new
 ensured_now marks keys log files old new a b c is ensured = (
   subst (IsEnsured marks) is (subst (λ p. IsEnsured p old) a ensured.marks),
   subst (IsEnsured keys) is (subst (λ p. IsEnsured p old) b ensured.keys),

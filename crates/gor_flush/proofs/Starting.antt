@@ -10,10 +10,10 @@ use Rattle.gor_model.specs.Changes.{History}
 use Rattle.gor_model.specs.Shares.{DeviceShare, DoneAt, device_share}
 use Rattle.gor_journal.specs.Bodies.{stored}
 use Rattle.gor_image.specs.Images.{current}
-use Rattle.gor_flush.specs.Devices.{Shown, HoldsPrefix, IsRunning, Kept, RunsBy, StillBy, last_count}
+use Rattle.gor_flush.specs.Devices.{Shown, HoldsPrefix, IsRunning, DonesAreKept, RunsBy, StillBy, last_count}
 use Rattle.gor_flush.specs.Flushes.{HasHead}
 use Rattle.gor_flush.specs.Keeps.{CallKeeps, DoneExtends, HasSameDisk, StepKeeps, StandsStill, StopsAfter, with_disk}
-use Rattle.gor_flush.specs.Takes.{HasTaken, with_buffers}
+use Rattle.gor_flush.specs.Takes.{HoldsTaken, with_buffers}
 use Rattle.gor_flush.specs.Writes.{MayWrite, TakenMayWrite}
 use Rattle.gor_flush.proofs.Keeping.{fewer, kept_done, longer, older_low, since_on}
 use Rattle.gor_flush.proofs.Taken.{few}
@@ -31,7 +31,7 @@ head_of bytes body is = subst HasHead (sym (bytes.ok.0 ∙ ap length is)) (heade
 pub apart : (d : Shown) (start : Start) (share : DeviceShare) → IsRunning d start share → d.keys.file ≢ d.log.file
 apart d start share running = λ same. absurd (let both : Keys (current d.list) ≡ Log (current d.list) = sym running.files.1 ∙ same ∙ running.files.2 in cc)
 
-module _ (d : Shown) (start : Start) (h : History) (has : HasTaken d start h) where
+module _ (d : Shown) (start : Start) (h : History) (has : HoldsTaken d start h) where
   running : IsRunning (with_buffers has.before d) start (device_share start h)
   running = subst (λ b. RunsBy b (with_buffers has.before d) start (device_share start h)) has.runs has.stood.runs
 
@@ -56,7 +56,7 @@ taken_may_write d start h has = may d start h has
 
 pub call_keeps : CallKeeps
 call_keeps d disk start C E dones kept runs = on dones (omega arith) kept where
-  on : (olds : List DoneAt) → last_count olds ≤ last_count dones → Kept d start C olds → Kept (record d { disk = disk }) start (E ++ C) olds
+  on : (olds : List DoneAt) → last_count olds ≤ last_count dones → DonesAreKept d start C olds → DonesAreKept (record d { disk = disk }) start (E ++ C) olds
   on [] low kept = tt
   on (done ∷ older) low kept = (
     kept.0,
@@ -73,7 +73,7 @@ done_extends d start C count dones since now low kept = kept_done d start C coun
 
 pub step_keeps : StepKeeps
 step_keeps d e start C E dones same kept = on dones kept where
-  on : (olds : List DoneAt) → Kept d start C olds → Kept e start (E ++ C) olds
+  on : (olds : List DoneAt) → DonesAreKept d start C olds → DonesAreKept e start (E ++ C) olds
   on [] kept = tt
   on (done ∷ older) kept = (
     subst (λ n. n ≤ done.moment) (sym same.opened) kept.0,
@@ -86,7 +86,7 @@ step_keeps d e start C E dones same kept = on dones kept where
 
 -- ---- a device that is stopped
 
-kept_same : (d e : Shown) (start : Start) (C : List Change) (dones : List DoneAt) → HasSameDisk d e → Kept d start C dones → Kept e start C dones
+kept_same : (d e : Shown) (start : Start) (C : List Change) (dones : List DoneAt) → HasSameDisk d e → DonesAreKept d start C dones → DonesAreKept e start C dones
 kept_same d e start C dones same kept = step_keeps d e start C [] dones same kept
 
 module _ (d : Shown) (last : DiskView) (last_faults : ℕ) where

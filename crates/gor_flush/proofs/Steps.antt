@@ -2,7 +2,7 @@
 use Rattle.std.proofs.Common.{◌≡◌, ◌≢◌, ⊎_elim, ℕ, ◌<◌, ◌≤◌, List, Bool, true, false, refl, sym, ◌∙◌, ap, subst, arith}
 use Rattle.std.proofs.lemmas.Bool.{cases_lt}
 use Rattle.gor_disk.specs.declared.disk.FileId.{FileId}
-use Rattle.gor_disk.specs.Disk.{DiskView, Contents, IsImage, IsSettled, Touches, Runs, held_now, settled}
+use Rattle.gor_disk.specs.Disk.{DiskView, Contents, IsImage, IsSettled, TouchesFile, Runs, held_now, settled}
 use Rattle.gor_image.specs.DiskSteps.{Leaves, IsGone, GoesOn, Keeps}
 use Rattle.gor_recover.specs.Openings.{OnlyRead}
 
@@ -10,7 +10,7 @@ module _ (which : FileId → Bool) where
   not_this : (file f : FileId) → which file ≡ true → which f ≡ false → f ≢ file
   not_this file f is_in none e = absurd (let both : false ≡ true = sym none ∙ ap which e ∙ is_in in cc)
 
-  pub from_touches : (file : FileId) (P : List ℕ → Type 0) (old new : DiskView) → which file ≡ true → Touches file P old new → Leaves which old new
+  pub from_touches : (file : FileId) (P : List ℕ → Type 0) (old new : DiskView) → which file ≡ true → TouchesFile file P old new → Leaves which old new
   from_touches file P old new is_in touches = record {
     later = touches.later;
     past = touches.past;
@@ -72,7 +72,7 @@ goes_then old mid new first second = record {
 pub goes_still : (old : DiskView) → GoesOn old old
 goes_still old = record { later = omega arith; past = λ t f low. refl }
 
-pub touches_goes : (file : FileId) (P : List ℕ → Type 0) (old new : DiskView) → Touches file P old new → GoesOn old new
+pub touches_goes : (file : FileId) (P : List ℕ → Type 0) (old new : DiskView) → TouchesFile file P old new → GoesOn old new
 touches_goes file P old new touches = record { later = touches.later; past = touches.past }
 
 pub leaves_goes : (which : FileId → Bool) (old new : DiskView) → Leaves which old new → GoesOn old new

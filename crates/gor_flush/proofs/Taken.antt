@@ -8,7 +8,7 @@ use Rattle.gor_model.specs.declared.start.Start.{Start}
 use Rattle.gor_model.specs.Answers.{is_take, before_take}
 use Rattle.gor_model.specs.Changes.{History, changed, changes}
 use Rattle.gor_model.specs.PlainMap.{next_change}
-use Rattle.gor_model.specs.Shares.{Buffered, besides_of, buffered_after, journal_share}
+use Rattle.gor_model.specs.Shares.{Buffered, besides_of_change, buffered_after, journal_share}
 use Rattle.gor_model.specs.Starts.{IsStart}
 use Rattle.gor_model.proofs.AnswerLaws.{buffered_changes}
 use Rattle.gor_model.proofs.KeptLaws.{changes_split}
@@ -28,12 +28,12 @@ pub waiting_is : (start : Start) (h : History) → waiting_after start (taken_be
 waiting_is start [] = refl
 waiting_is start (e ∷ h) = at (is_take e.reply) refl (waiting_is start h) where
   with : (o : Option Change) → waiting_after start (taken_before h) (taken_now start h) ≡ buffered_after start h
-      → waiting_after start (taken_before h) (map (λ b. b.change) (cons_option (option_map (λ c. record { change = c; besides = besides_of start (changes h) c }) o) (buffered_after start h)))
-      ≡ cons_option (option_map (λ c. record { change = c; besides = besides_of start (changes h) c }) o) (buffered_after start h)
+      → waiting_after start (taken_before h) (map (λ b. b.change) (cons_option (option_map (λ c. record { change = c; besides = besides_of_change start (changes h) c }) o) (buffered_after start h)))
+      ≡ cons_option (option_map (λ c. record { change = c; besides = besides_of_change start (changes h) c }) o) (buffered_after start h)
   with None before = before
   with (Some c) before =
-      ap (λ C. record { change = c; besides = besides_of start C c } ∷ waiting_after start (taken_before h) (taken_now start h)) (sym (split start h))
-      ∙ ap (λ l. record { change = c; besides = besides_of start (changes h) c } ∷ l) before
+      ap (λ C. record { change = c; besides = besides_of_change start C c } ∷ waiting_after start (taken_before h) (taken_now start h)) (sym (split start h))
+      ∙ ap (λ l. record { change = c; besides = besides_of_change start (changes h) c } ∷ l) before
 
   at : (b : Bool) → is_take e.reply ≡ b → waiting_after start (taken_before h) (taken_now start h) ≡ buffered_after start h
       → waiting_after start (taken_before (e ∷ h)) (taken_now start (e ∷ h)) ≡ buffered_after start (e ∷ h)

@@ -13,15 +13,15 @@ use Rattle.gor_model.specs.declared.start.Row.{Row}
 use Rattle.gor_log.specs.declared.record.LogRecord.TheVariants.{Seal}
 use Rattle.gor_journal.specs.Entries.{greater}
 use Rattle.gor_journal.specs.Records.{point_window, greatest_window}
-use Rattle.gor_image.specs.Records.{Batch}
+use Rattle.gor_image.specs.Records.{BatchInLog}
 use Rattle.gor_image.specs.ChangeRecords.{log_record, log_records_of, waiting_after}
 use Rattle.gor_image.specs.Images.{put_window, greatest_of, top_of}
 use Rattle.gor_recover.specs.declared.recovered.LogTop.{LogTop}
-use Rattle.gor_flush.specs.Writes.{raised}
+use Rattle.gor_flush.specs.Writes.{last_top_raised}
 
 -- ---- what the code does
 
-pub raised_at : (top : Option ℕ) (x : LogTop) (tops : List LogTop) (i : ℕ) → i + 1 ≡ length tops → x ≡ slice_index_or tops i x → slice_set tops i (record { log = x.log; top = greater top x.top }) ≡ raised top tops
+pub raised_at : (top : Option ℕ) (x : LogTop) (tops : List LogTop) (i : ℕ) → i + 1 ≡ length tops → x ≡ slice_index_or tops i x → slice_set tops i (record { log = x.log; top = greater top x.top }) ≡ last_top_raised top tops
 raised_at top x [] i e is = absurd (omega arith)
 raised_at top x (t ∷ []) zero e is = ap (λ (y : LogTop). record { log = y.log; top = greater top y.top } ∷ []) is
 raised_at top x (t ∷ []) (suc i) e is = absurd (omega arith)
@@ -68,31 +68,31 @@ windows_are start C (c ∷ E) =
 
 -- ---- a batch more
 
-module _ (batches : List Batch) (batch : Batch) where
+module _ (batches : List BatchInLog) (batch : BatchInLog) where
   pub top_other : (log : ℕ) → log ≢ batch.log → top_of log (batches ++ batch ∷ []) ≡ top_of log batches
   top_other log apart =
       let test : nat_eq batch.log log ≡ false = grind arith in
-      let rest : filter (λ (b : Batch). nat_eq b.log log) (batch ∷ []) ≡ [] = rw test refl in
-      ap (λ (l : List Batch). greatest_of (filter_map put_window (flat_map (λ b. map (λ r. r.it) b.records) l)))
-      (filter-append (λ (b : Batch). nat_eq b.log log) batches (batch ∷ []) ∙ ap (λ l. filter (λ (b : Batch). nat_eq b.log log) batches ++ l) rest ∙ append-nil (filter (λ (b : Batch). nat_eq b.log log) batches))
+      let rest : filter (λ (b : BatchInLog). nat_eq b.log log) (batch ∷ []) ≡ [] = rw test refl in
+      ap (λ (l : List BatchInLog). greatest_of (filter_map put_window (flat_map (λ b. map (λ r. r.it) b.records) l)))
+      (filter-append (λ (b : BatchInLog). nat_eq b.log log) batches (batch ∷ []) ∙ ap (λ l. filter (λ (b : BatchInLog). nat_eq b.log log) batches ++ l) rest ∙ append-nil (filter (λ (b : BatchInLog). nat_eq b.log log) batches))
 
   pub top_own : top_of batch.log (batches ++ batch ∷ []) ≡ greater (greatest_of (filter_map put_window (map (λ r. r.it) batch.records))) (top_of batch.log batches)
   top_own =
       let test : nat_eq batch.log batch.log ≡ true = grind arith in
-      let rest : filter (λ (b : Batch). nat_eq b.log batch.log) (batch ∷ []) ≡ batch ∷ [] = rw test refl in
-      ap (λ (l : List Batch). greatest_of (filter_map put_window (flat_map (λ b. map (λ r. r.it) b.records) l)))
-      (filter-append (λ (b : Batch). nat_eq b.log batch.log) batches (batch ∷ []) ∙ ap (λ l. filter (λ (b : Batch). nat_eq b.log batch.log) batches ++ l) rest)
-      ∙ ap (λ l. greatest_of (filter_map put_window l)) (flat_map-append (λ (b : Batch). map (λ r. r.it) b.records) (filter (λ (b : Batch). nat_eq b.log batch.log) batches) (batch ∷ [])
-      ∙ ap (λ l. flat_map (λ b. map (λ r. r.it) b.records) (filter (λ (b : Batch). nat_eq b.log batch.log) batches) ++ l) (append-nil (map (λ r. r.it) batch.records)))
-      ∙ ap greatest_of (filter_map-append put_window (flat_map (λ b. map (λ r. r.it) b.records) (filter (λ (b : Batch). nat_eq b.log batch.log) batches)) (map (λ r. r.it) batch.records))
-      ∙ joined (filter_map put_window (flat_map (λ b. map (λ r. r.it) b.records) (filter (λ (b : Batch). nat_eq b.log batch.log) batches))) (filter_map put_window (map (λ r. r.it) batch.records))
+      let rest : filter (λ (b : BatchInLog). nat_eq b.log batch.log) (batch ∷ []) ≡ batch ∷ [] = rw test refl in
+      ap (λ (l : List BatchInLog). greatest_of (filter_map put_window (flat_map (λ b. map (λ r. r.it) b.records) l)))
+      (filter-append (λ (b : BatchInLog). nat_eq b.log batch.log) batches (batch ∷ []) ∙ ap (λ l. filter (λ (b : BatchInLog). nat_eq b.log batch.log) batches ++ l) rest)
+      ∙ ap (λ l. greatest_of (filter_map put_window l)) (flat_map-append (λ (b : BatchInLog). map (λ r. r.it) b.records) (filter (λ (b : BatchInLog). nat_eq b.log batch.log) batches) (batch ∷ [])
+      ∙ ap (λ l. flat_map (λ b. map (λ r. r.it) b.records) (filter (λ (b : BatchInLog). nat_eq b.log batch.log) batches) ++ l) (append-nil (map (λ r. r.it) batch.records)))
+      ∙ ap greatest_of (filter_map-append put_window (flat_map (λ b. map (λ r. r.it) b.records) (filter (λ (b : BatchInLog). nat_eq b.log batch.log) batches)) (map (λ r. r.it) batch.records))
+      ∙ joined (filter_map put_window (flat_map (λ b. map (λ r. r.it) b.records) (filter (λ (b : BatchInLog). nat_eq b.log batch.log) batches))) (filter_map put_window (map (λ r. r.it) batch.records))
 
 -- the tops of the logs, of which the last is the current one
-abbrev Tops : List Batch → List LogTop → Type 0
+abbrev Tops : List BatchInLog → List LogTop → Type 0
 Tops batches tops = AllByRecursion (λ t. t.top ≡ top_of t.log batches) tops
 
-pub shown_on : (old new : List Batch) (k : ℕ) (top : Option ℕ) → ((log : ℕ) → log ≢ k → top_of log new ≡ top_of log old) → top_of k new ≡ greater top (top_of k old)
-    → (init : List ℕ) → AllByRecursion (λ l. l ≢ k) init → (tops : List LogTop) → map (λ t. t.log) tops ≡ init ++ k ∷ [] → Tops old tops → Tops new (raised top tops)
+pub shown_on : (old new : List BatchInLog) (k : ℕ) (top : Option ℕ) → ((log : ℕ) → log ≢ k → top_of log new ≡ top_of log old) → top_of k new ≡ greater top (top_of k old)
+    → (init : List ℕ) → AllByRecursion (λ l. l ≢ k) init → (tops : List LogTop) → map (λ t. t.log) tops ≡ init ++ k ∷ [] → Tops old tops → Tops new (last_top_raised top tops)
 shown_on old new k top others own [] apart [] logs shown = absurd (cc)
 shown_on old new k top others own (l ∷ init) apart [] logs shown = absurd (cc)
 shown_on old new k top others own [] apart (t ∷ []) logs shown =
@@ -109,12 +109,12 @@ shown_on old new k top others own (l ∷ init) apart (t ∷ u ∷ more) logs sho
     (shown.0 ∙ sym (others t.log (λ e. apart.0 (sym is ∙ e))), shown_on old new k top others own init apart.1 (u ∷ more) rest shown.1)
 
 -- the logs are as they were
-pub raised_same : (tops : List LogTop) → raised None tops ≡ tops
+pub raised_same : (tops : List LogTop) → last_top_raised None tops ≡ tops
 raised_same [] = refl
 raised_same (t ∷ []) = refl
 raised_same (t ∷ u ∷ more) = ap (λ l. t ∷ l) (raised_same (u ∷ more))
 
-pub raised_logs : (top : Option ℕ) (tops : List LogTop) → map (λ t. t.log) (raised top tops) ≡ map (λ t. t.log) tops
+pub raised_logs : (top : Option ℕ) (tops : List LogTop) → map (λ t. t.log) (last_top_raised top tops) ≡ map (λ t. t.log) tops
 raised_logs top [] = refl
 raised_logs top (t ∷ []) = refl
 raised_logs top (t ∷ u ∷ more) = ap (λ l. t.log ∷ l) (raised_logs top (u ∷ more))

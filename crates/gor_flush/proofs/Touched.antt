@@ -4,11 +4,11 @@ use Rattle.std.specs.Prelude.{Vec}
 use Rattle.std.specs.declared.alloc.Global.{Global}
 use Rattle.std.proofs.lemmas.Bool.Decides.{nat_tests}
 use Rattle.gor_disk.specs.declared.disk.FileId.{FileId}
-use Rattle.gor_disk.specs.Disk.{DiskView, Touches}
+use Rattle.gor_disk.specs.Disk.{DiskView, TouchesFile}
 use Rattle.gor_gate.specs.Gates.{Walk, IsOldOrNew}
 use Rattle.gor_flush.specs.Flushes.{HasOldOrNew}
 
-pub weaker : (file : FileId) (P Q : List ℕ → Type 0) (old new : DiskView) → Touches file P old new → ((c : List ℕ) → P c → Q c) → Touches file Q old new
+pub weaker : (file : FileId) (P Q : List ℕ → Type 0) (old new : DiskView) → TouchesFile file P old new → ((c : List ℕ) → P c → Q c) → TouchesFile file Q old new
 weaker file P Q old new touches follows = record {
   later = touches.later;
   past = touches.past;
@@ -22,9 +22,9 @@ old_or_new list [] c some one = absurd (omega arith)
 old_or_new list (b ∷ bytes) c some one = record { one = one.list; closed = one.closed }
 
 -- the body stands behind eight bytes of these
-pub with_items : (file : FileId) (list : Walk) (items body : List ℕ) (old new : DiskView) → 1 ≤ length items → body ≡ drop 8 items → Touches file (IsOldOrNew list body) old new → Touches file (HasOldOrNew list items) old new
+pub with_items : (file : FileId) (list : Walk) (items body : List ℕ) (old new : DiskView) → 1 ≤ length items → body ≡ drop 8 items → TouchesFile file (IsOldOrNew list body) old new → TouchesFile file (HasOldOrNew list items) old new
 with_items file list items body old new some is touches =
-    weaker file (IsOldOrNew list (drop 8 items)) (HasOldOrNew list items) old new (subst (λ b. Touches file (IsOldOrNew list b) old new) is touches) (λ c one. old_or_new list items c some one)
+    weaker file (IsOldOrNew list (drop 8 items)) (HasOldOrNew list items) old new (subst (λ b. TouchesFile file (IsOldOrNew list b) old new) is touches) (λ c one. old_or_new list items c some one)
 
 -- lists of bytes that are not empty, by what tests and lengths say
 pub not_empty : (n : ℕ) (b : Bool) → b ≡ (n == 0) → b ≡ false → 1 ≤ n

@@ -7,7 +7,7 @@ use Rattle.gor_marks.specs.declared.mark.Mark.{Mark}
 use Rattle.gor_marks.specs.declared.mark.Mark.TheVariants.{Home, Sealed}
 use Rattle.gor_recover.specs.declared.recovered.LogTop.{LogTop}
 use Rattle.gor_image.specs.Images.{current, first_log_of}
-use Rattle.gor_image.specs.MarkLists.{MayFollow, AllFollow, AreMarks}
+use Rattle.gor_image.specs.MarkLists.{MarkMayFollow, AllFollow, AreMarks}
 use Rattle.gor_recover.specs.Recovered.{AreTops}
 use Rattle.gor_flush.specs.NextMarks.{turned_tops}
 use Rattle.gor_flush.proofs.Following.{some_marks}
@@ -40,7 +40,7 @@ range_last : (a n : ℕ) → range_with_len a (suc n) ≡ range_with_len a n ++ 
 range_last a zero = ap (λ m. m ∷ []) (let e : a ≡ a + 0 = omega arith in e)
 range_last a (suc n) = ap (λ l. a ∷ l) (range_last (a + 1) n ∙ ap (λ m. range_with_len (a + 1) n ++ m ∷ []) (let e : a + 1 + n ≡ a + suc n = omega arith in e))
 
-pub tops_turned : (shards shard : ℕ) (marks : List Mark) (m : Mark) (tops : List LogTop) → AreMarks shards shard marks → AreTops marks tops → MayFollow marks m
+pub tops_turned : (shards shard : ℕ) (marks : List Mark) (m : Mark) (tops : List LogTop) → AreMarks shards shard marks → AreTops marks tops → MarkMayFollow marks m
     → AreTops (marks ++ m ∷ []) (turned_tops m tops)
 tops_turned shards shard marks (Home n s) tops are logs may = absurd (let both : true ≡ false = may.sealed in cc)
 tops_turned shards shard marks (Sealed w k u f) tops are logs may =
@@ -58,10 +58,10 @@ tops_turned shards shard marks (Sealed w k u f) tops are logs may =
     ∙ sym (range_last f (k - f))
     ∙ rw (first, count) (ap (range_with_len f) (let e : suc (k - f) ≡ current marks + 1 + 1 - f = omega (arith, number, high) in e))
 
-all_then : (before xs : List Mark) (m : Mark) → AllFollow before xs → MayFollow (before ++ xs) m → AllFollow before (xs ++ m ∷ [])
-all_then before [] m all may = (subst (λ (l : List Mark). MayFollow l m) (append-nil before) may, tt)
-all_then before (x ∷ xs) m all may = (all.0, all_then (before ++ x ∷ []) xs m all.1 (subst (λ (l : List Mark). MayFollow l m) (sym (append_assoc before (x ∷ []) xs)) may))
+all_then : (before xs : List Mark) (m : Mark) → AllFollow before xs → MarkMayFollow (before ++ xs) m → AllFollow before (xs ++ m ∷ [])
+all_then before [] m all may = (subst (λ (l : List Mark). MarkMayFollow l m) (append-nil before) may, tt)
+all_then before (x ∷ xs) m all may = (all.0, all_then (before ++ x ∷ []) xs m all.1 (subst (λ (l : List Mark). MarkMayFollow l m) (sym (append_assoc before (x ∷ []) xs)) may))
 
-pub marks_turned : (shards shard : ℕ) (marks : List Mark) (m : Mark) → AreMarks shards shard marks → MayFollow marks m → AreMarks shards shard (marks ++ m ∷ [])
+pub marks_turned : (shards shard : ℕ) (marks : List Mark) (m : Mark) → AreMarks shards shard marks → MarkMayFollow marks m → AreMarks shards shard (marks ++ m ∷ [])
 marks_turned shards shard [] m are may = absurd are
 marks_turned shards shard (x ∷ xs) m are may = (are.0, are.1, all_then (x ∷ []) xs m are.2 may)

@@ -7,21 +7,21 @@ use Rattle.gor_disk.specs.declared.disk.FileId.{FileId}
 use Rattle.gor_disk.specs.declared.disk.FileId.TheVariants.{Marks, Keys, Log}
 use Rattle.gor_disk.specs.Disk.{Contents, DiskView, IsImage, IsImageAt, IsSettled as IsSettledFile, LeavesSince, NothingPending, Runs, held_now, settled}
 use Rattle.gor_disk.proofs.Runs.{only_settled}
-use Rattle.gor_gate.specs.Gates.{IsReady}
-use Rattle.gor_gate.specs.Places.{IsEnsured, Place}
+use Rattle.gor_gate.specs.Gates.{ListEndsAt}
+use Rattle.gor_gate.specs.Places.{IsEnsured, GatedPlace}
 use Rattle.gor_model.specs.Shares.{DeviceShare}
 use Rattle.gor_model.specs.declared.event.Change.{Change}
 use Rattle.gor_model.specs.declared.start.Start.{Start}
 use Rattle.gor_marks.specs.declared.mark.Mark.{Mark}
 use Rattle.gor_image.specs.DiskSteps.{Leaves}
 use Rattle.gor_image.specs.Images.{current, first_log_of, read_logs, remaining_logs}
-use Rattle.gor_image.specs.Laws.{IsBefore}
+use Rattle.gor_image.specs.Laws.{MayBeWrittenOn}
 use Rattle.gor_image.specs.MarkLists.{AreMarks}
 use Rattle.gor_image.specs.ReadFiles.{is_read}
 use Rattle.gor_image.proofs.Kept.{closed_as, unread_keeps}
 use Rattle.gor_image.proofs.ReadFiles.{same_logs}
-use Rattle.gor_flush.specs.Devices.{HoldsAll, HoldsPrefix, IsRunning, RunsBy, SettledBy, ShowTops, Shown, StandsFor, StillBy, last_count}
-use Rattle.gor_flush.specs.Devices.{IsSettled}
+use Rattle.gor_flush.specs.Devices.{HoldsAll, HoldsPrefix, IsRunning, RunsBy, SettledBy, ShowTops, Shown, DeviceStandsFor, StillBy, last_count}
+use Rattle.gor_flush.specs.Devices.{DeviceIsSettled}
 use Rattle.gor_flush.specs.Finished.{AreUnread, StandsUnread, TouchesOnly, UnreadMoments}
 use Rattle.gor_flush.specs.Keeps.{with_disk}
 use Rattle.gor_flush.proofs.Following.{some_marks}
@@ -41,7 +41,7 @@ headed shards shard (m ∷ marks) are = record { m = m; marks = marks; are = ref
 is_itself : (n : ℕ) → nat_eq n n ≡ true
 is_itself n = grind arith
 
-module _ (d : Shown) (disk : DiskView) (start : Start) (share : DeviceShare) (which : FileId → Bool) (stood : StandsFor d start share) (going : d.stopped ≡ false) (unread : AreUnread which d) where
+module _ (d : Shown) (disk : DiskView) (start : Start) (share : DeviceShare) (which : FileId → Bool) (stood : DeviceStandsFor d start share) (going : d.stopped ≡ false) (unread : AreUnread which d) where
   runs_on : share.stopped ≡ false
   runs_on = sym stood.stopped ∙ going
 
@@ -77,16 +77,16 @@ module _ (d : Shown) (disk : DiskView) (start : Start) (share : DeviceShare) (wh
     seen_still : (f : FileId) → which f ≡ false → disk.seen f ≡ d.disk.seen f
     seen_still f apart = leaves.other_bytes f apart
 
-    ensured_still : (p : Place) → which p.file ≡ false → IsEnsured p d.disk → IsEnsured p disk
+    ensured_still : (p : GatedPlace) → which p.file ≡ false → IsEnsured p d.disk → IsEnsured p disk
     ensured_still p apart was = record {
       settled = held_still p.file apart ∙ was.settled ∙ ap settled (sym (seen_still p.file apart));
-      ready = subst (λ b. IsReady b p.gate) (sym (seen_still p.file apart)) was.ready;
+      ready = subst (λ b. ListEndsAt b p.gate) (sym (seen_still p.file apart)) was.ready;
     }
 
     -- ---- images
 
     module _ (images : HoldsAll d start share) where
-      at_rest : IsSettled d start share
+      at_rest : DeviceIsSettled d start share
       at_rest = subst (λ b. SettledBy b d start share) runs_on images.now
 
       -- all that was taken is there
@@ -94,12 +94,12 @@ module _ (d : Shown) (disk : DiskView) (start : Start) (share : DeviceShare) (wh
       taken_all [] p all exact = all
       taken_all (c ∷ l) p all exact = absurd (let a = ap length all in let b = length-append l p in let n = running.done in omega (arith, a, b, exact, n))
 
-      before_now : LeavesSince d.disk.moment d.disk (λ image. IsBefore d.shards d.shard image (head.m ∷ head.marks) start share.taken)
+      before_now : LeavesSince d.disk.moment d.disk (λ image. MayBeWrittenOn d.shards d.shard image (head.m ∷ head.marks) start share.taken)
       before_now k image low high is =
           let s = at_rest.settled k image low high is in
-          subst (λ l. IsBefore d.shards d.shard image l start share.taken) head.are (subst (λ p. IsBefore d.shards d.shard image d.list start p) (taken_all s.later s.prefix s.all s.exact) s.before)
+          subst (λ l. MayBeWrittenOn d.shards d.shard image l start share.taken) head.are (subst (λ p. MayBeWrittenOn d.shards d.shard image d.list start p) (taken_all s.later s.prefix s.all s.exact) s.before)
 
-      before_on : LeavesSince d.disk.moment disk (λ image. IsBefore d.shards d.shard image (head.m ∷ head.marks) start share.taken)
+      before_on : LeavesSince d.disk.moment disk (λ image. MayBeWrittenOn d.shards d.shard image (head.m ∷ head.marks) start share.taken)
       before_on = unread_keeps which head.m head.marks d.disk disk touches.stays (λ f is. unread f (subst (λ l. is_read l f ≡ true) (sym head.are) is)) leaves d.shards d.shard start share.taken before_now
 
       moments : Runs (HoldsPrefix d.shards d.shard start share.taken (last_count share.dones)) d.disk disk
@@ -151,7 +151,7 @@ module _ (d : Shown) (disk : DiskView) (start : Start) (share : DeviceShare) (wh
     ensured = λ t. let was = running.ensured t in (ensured_still (touches t) d.marks marks_apart was.0, ensured_still (touches t) d.keys keys_apart was.1, ensured_still (touches t) d.log log_apart was.2);
   }
 
-  pub stands_on : (IsTrue d.tells → TouchesOnly which d.disk disk × ((file : FileId) → which file ≡ true → IsSettledFile disk file)) → StandsFor (with_disk disk d) start share
+  pub stands_on : (IsTrue d.tells → TouchesOnly which d.disk disk × ((file : FileId) → which file ≡ true → IsSettledFile disk file)) → DeviceStandsFor (with_disk disk d) start share
   stands_on says = record {
     shards_are = stood.shards_are;
     shard_is = stood.shard_is;
@@ -176,7 +176,7 @@ module _ (d : Shown) (disk : DiskView) (start : Start) (share : DeviceShare) (wh
               prefix = share.taken;
               all = refl;
               exact = sym running.done;
-              before = subst (λ l. IsBefore d.shards d.shard image l start share.taken) (sym head.are) (before_on touches images k image (let l = touches.leaves.later in omega (arith, l, low)) high is);
+              before = subst (λ l. MayBeWrittenOn d.shards d.shard image l start share.taken) (sym head.are) (before_on touches images k image (let l = touches.leaves.later in omega (arith, l, low)) high is);
             };
             tops = tops_on touches images (says t).1;
           });

@@ -4,9 +4,9 @@ use Rattle.gor_model.specs.Shares.{DeviceShare, DoneAt, SealedSeries}
 use Rattle.gor_model.specs.SharesAfter.{device_done, device_raised, device_sealed}
 use Rattle.gor_model.specs.declared.event.Change.{Change}
 use Rattle.gor_model.specs.declared.start.Start.{Start}
-use Rattle.gor_flush.specs.Devices.{Shown, Kept, NoneAbove, RunsBy, SettledBy, StandsFor}
+use Rattle.gor_flush.specs.Devices.{Shown, DonesAreKept, NoneAbove, RunsBy, SettledBy, DeviceStandsFor}
 use Rattle.gor_flush.specs.Finished.{DoneMayWait, FinishIsDone, StandsRaised, StandsRunning, StandsSealed, StopsWithoutDone}
-use Rattle.gor_flush.specs.Finishes.{IsWritten}
+use Rattle.gor_flush.specs.Finishes.{TakeIsWritten}
 
 -- ---- a floor and a seal
 
@@ -99,8 +99,8 @@ none_above : (moment at count : ℕ) (dones : List DoneAt) → moment ≤ at →
 none_above moment at count [] low none = tt
 none_above moment at count (done ∷ older) low none = (let early = none.0 in omega (arith, low, early), none.1)
 
-kept_later : (d : Shown) (start : Start) (C : List Change) (moment at count : ℕ) (dones : List DoneAt) → moment ≤ at → at ≤ d.disk.moment → Kept d start C (record { moment = moment; count = count } ∷ dones)
-    → Kept d start C (record { moment = at; count = count } ∷ dones)
+kept_later : (d : Shown) (start : Start) (C : List Change) (moment at count : ℕ) (dones : List DoneAt) → moment ≤ at → at ≤ d.disk.moment → DonesAreKept d start C (record { moment = moment; count = count } ∷ dones)
+    → DonesAreKept d start C (record { moment = at; count = count } ∷ dones)
 kept_later d start C moment at count dones low come kept = (
   let since = kept.0 in omega (arith, since, low),
   come,
@@ -109,7 +109,7 @@ kept_later d start C moment at count dones low come kept = (
   kept.4,
 )
 
-waits : (d : Shown) (start : Start) (share : DeviceShare) (w : Option ℕ) (at : ℕ) → (written : IsWritten d start share) → written.moment ≤ at → at ≤ d.disk.moment → StandsFor d start (device_done w at share)
+waits : (d : Shown) (start : Start) (share : DeviceShare) (w : Option ℕ) (at : ℕ) → (written : TakeIsWritten d start share) → written.moment ≤ at → at ≤ d.disk.moment → DeviceStandsFor d start (device_done w at share)
 waits d start share w at written low come =
     let stood = written.stands in
     record {

@@ -6,8 +6,8 @@ use Rattle.gor_disk.specs.declared.disk.FileId.{FileId}
 use Rattle.gor_disk.specs.declared.disk.FileId.TheVariants.{Marks, Keys, Log}
 use Rattle.gor_disk.specs.Disk.{DiskView, IsImage, IsImageAt, IsSettled as IsSettledFile, LeavesSince, NothingPending, Rose, Runs, held_now, settled}
 use Rattle.gor_gate.proofs.Ensured.{as_it_is}
-use Rattle.gor_gate.specs.Gates.{gates, IsReady}
-use Rattle.gor_gate.specs.Places.{Place, IsEnsured}
+use Rattle.gor_gate.specs.Gates.{gates, ListEndsAt}
+use Rattle.gor_gate.specs.Places.{GatedPlace, IsEnsured}
 use Rattle.gor_model.specs.declared.event.Change.{Change}
 use Rattle.gor_model.specs.declared.start.Start.{Start}
 use Rattle.gor_model.specs.Answers.{Legal, is_stopped}
@@ -19,16 +19,16 @@ use Rattle.gor_marks.specs.declared.mark.Mark.{Mark}
 use Rattle.gor_journal.specs.Bodies.{AreEmpty}
 use Rattle.gor_journal.specs.declared.buffers.Buffers.{Buffers}
 use Rattle.gor_journal.specs.Records.{first_number}
-use Rattle.gor_journal.specs.Stands.{AreOf}
+use Rattle.gor_journal.specs.Stands.{HoldBodiesOf}
 use Rattle.gor_image.specs.ChangeRecords.{waiting_after}
 use Rattle.gor_image.specs.Images.{current, remaining_logs}
-use Rattle.gor_image.specs.Laws.{IsBefore}
+use Rattle.gor_image.specs.Laws.{MayBeWrittenOn}
 use Rattle.gor_image.specs.MarkLists.{AreMarks}
 use Rattle.gor_recover.specs.declared.recovered.LogTop.{LogTop}
-use Rattle.gor_flush.specs.Devices.{Shown, HoldsAll, HoldsPrefix, IsRunning, IsSettled, RunsBy, SettledBy, ShowTops, StandsFor, StillBy, last_count}
-use Rattle.gor_flush.specs.Flushes.{HoldsEither, IsWithin, MayExtend, OthersStay, with_body}
+use Rattle.gor_flush.specs.Devices.{Shown, HoldsAll, HoldsPrefix, IsRunning, DeviceIsSettled, RunsBy, SettledBy, ShowTops, DeviceStandsFor, StillBy, last_count}
+use Rattle.gor_flush.specs.Flushes.{HoldsEither, IsWithinFlush, MayExtend, OtherFilesStay, with_body}
 use Rattle.gor_flush.specs.Takes.{share_done, share_stopped}
-use Rattle.gor_flush.specs.Writes.{raised}
+use Rattle.gor_flush.specs.Writes.{last_top_raised}
 use Rattle.gor_flush.proofs.Extending.{within}
 use Rattle.gor_flush.proofs.Keeping.{after, kept_done, kept_on, prefixes_on}
 use Rattle.gor_flush.proofs.Restoring.{told}
@@ -41,19 +41,19 @@ use Rattle.gor_flush.proofs.Tops.{raised_logs}
 -- whatever it answered, on a disk that tells
 pub record Called (d : Shown) (buffers : Buffers) (disk : DiskView) : Type 0 where
   pub stays : (f : FileId) → IsImage (held_now d.disk f) (d.disk.seen f)
-  pub any_moment : Runs (IsWithin d.keys.file d.log.file buffers.keys.items buffers.log.items d.disk) d.disk disk
+  pub any_moment : Runs (IsWithinFlush d.keys.file d.log.file buffers.keys.items buffers.log.items d.disk) d.disk disk
   pub either : (shards shard : ℕ) (m : Mark) (marks : List Mark) (start : Start) (C E : List Change) → MayExtend shards shard m marks start C E d.keys d.log buffers d.disk
       → Runs (HoldsEither shards shard start C E) d.disk disk
 
 -- and after Ok
-pub record Done (d : Shown) (buffers : Buffers) (disk : DiskView) (keys log : Place) : Type 0 where
+pub record Done (d : Shown) (buffers : Buffers) (disk : DiskView) (keys log : GatedPlace) : Type 0 where
   pub called : Called d buffers disk
-  pub others : OthersStay d.keys.file d.log.file d.disk disk
+  pub others : OtherFilesStay d.keys.file d.log.file d.disk disk
   pub keys_ready : IsEnsured keys disk
   pub log_ready : IsEnsured log disk
   pub has_log : gates (disk.seen d.log.file) ≡ with_body buffers.log.items (gates (d.disk.seen d.log.file))
   pub extended : (shards shard : ℕ) (m : Mark) (marks : List Mark) (start : Start) (C E : List Change) → MayExtend shards shard m marks start C E d.keys d.log buffers d.disk
-      → LeavesSince disk.moment disk (λ image. IsBefore shards shard image (m ∷ marks) start (E ++ C))
+      → LeavesSince disk.moment disk (λ image. MayBeWrittenOn shards shard image (m ∷ marks) start (E ++ C))
 
 record Headed (list : List Mark) : Type 0 where
   m : Mark
@@ -69,7 +69,7 @@ no_rest [] p C n all exact long = all
 no_rest (c ∷ l) p C n all exact long = absurd (let a = ap length all in let b = length-append l p in omega (arith, a, b, exact, long))
 
 module _ (d : Shown) (buffers : Buffers) (start : Start) (h : History) (begins : IsStart start) (legal : Legal start h) (short : length h ≤ 2 ^ 44) (going : is_stopped h ≡ false)
-    (stood : StandsFor d start (device_share start h)) (taken : AreOf (first_number (journal_share start h)) (buffered_after start h) buffers) where
+    (stood : DeviceStandsFor d start (device_share start h)) (taken : HoldBodiesOf (first_number (journal_share start h)) (buffered_after start h) buffers) where
   abbrev C : List Change
   C = taken_before h
 
@@ -82,8 +82,8 @@ module _ (d : Shown) (buffers : Buffers) (start : Start) (h : History) (begins :
   head : Headed d.list
   head = headed d.shards d.shard d.list running.marks
 
-  buffers_are : AreOf (next_change start C) (waiting_after start C E) buffers
-  buffers_are = subst (λ l. AreOf (next_change start C) l buffers) (sym (waiting_is start h)) (subst (λ n. AreOf n (buffered_after start h) buffers) (first_is start h) taken)
+  buffers_are : HoldBodiesOf (next_change start C) (waiting_after start C E) buffers
+  buffers_are = subst (λ l. HoldBodiesOf (next_change start C) l buffers) (sym (waiting_is start h)) (subst (λ n. HoldBodiesOf n (buffered_after start h) buffers) (first_is start h) taken)
 
   -- ---- counts
 
@@ -105,15 +105,15 @@ module _ (d : Shown) (buffers : Buffers) (start : Start) (h : History) (begins :
   -- ---- what the images were
 
   module _ (images : HoldsAll d start (device_share start h)) where
-    at_rest : IsSettled d start (device_share start h)
+    at_rest : DeviceIsSettled d start (device_share start h)
     at_rest = subst (λ b. SettledBy b d start (device_share start h)) going images.now
 
     may : MayExtend d.shards d.shard head.m head.marks start C E d.keys d.log buffers d.disk
     may = record {
       before = λ k image low high is.
           let s = at_rest.settled k image low high is in
-          subst (λ l. IsBefore d.shards d.shard image l start C) head.are
-          (subst (λ p. IsBefore d.shards d.shard image d.list start p) (no_rest s.later s.prefix C (last_count (device_share start h).dones) s.all s.exact running.done) s.before);
+          subst (λ l. MayBeWrittenOn d.shards d.shard image l start C) head.are
+          (subst (λ p. MayBeWrittenOn d.shards d.shard image d.list start p) (no_rest s.later s.prefix C (last_count (device_share start h).dones) s.all s.exact running.done) s.before);
       key_list = running.files.1 ∙ ap (λ l. Keys (current l)) head.are;
       current_log = running.files.2 ∙ ap (λ l. Log (current l)) head.are;
       taken = buffers_are;
@@ -124,7 +124,7 @@ module _ (d : Shown) (buffers : Buffers) (start : Start) (h : History) (begins :
       numbers = low_numbers start h begins short;
     }
 
-  module _ (disk : DiskView) (faults : ℕ) (keys log : Place) (tops : List LogTop) (left : Buffers) (stopped : Bool) (written : ℕ) (last : DiskView) (last_faults : ℕ) where
+  module _ (disk : DiskView) (faults : ℕ) (keys log : GatedPlace) (tops : List LogTop) (left : Buffers) (stopped : Bool) (written : ℕ) (last : DiskView) (last_faults : ℕ) where
     abbrev new : Shown
     new = after d disk faults keys log tops left stopped written last last_faults
 
@@ -134,7 +134,7 @@ module _ (d : Shown) (buffers : Buffers) (start : Start) (h : History) (begins :
 
     -- ---- after a fault
 
-    pub stands_stopped : stopped ≡ true → Rose d.faults faults → disk ≡ last → faults ≡ last_faults → ((t : IsTrue d.tells) → Called d buffers disk) → StandsFor new start (share_stopped start h)
+    pub stands_stopped : stopped ≡ true → Rose d.faults faults → disk ≡ last → faults ≡ last_faults → ((t : IsTrue d.tells) → Called d buffers disk) → DeviceStandsFor new start (share_stopped start h)
     stands_stopped is rose as_last faults_last called = record {
       shards_are = stood.shards_are;
       shard_is = stood.shard_is;
@@ -165,7 +165,7 @@ module _ (d : Shown) (buffers : Buffers) (start : Start) (h : History) (begins :
           let same = (done tells).others d.marks.file not_keys not_log in
           record {
             settled = same.0 ∙ was.settled ∙ ap settled (sym same.1);
-            ready = subst (λ b. IsReady b d.marks.gate) (sym same.1) was.ready;
+            ready = subst (λ b. ListEndsAt b d.marks.gate) (sym same.1) was.ready;
           }
 
       module _ (same_keys : keys.file ≡ d.keys.file) (same_log : log.file ≡ d.log.file) (images : HoldsAll d start (device_share start h)) where
@@ -178,13 +178,13 @@ module _ (d : Shown) (buffers : Buffers) (start : Start) (h : History) (begins :
               let same = (done tells).others f apart differs in
               same.0 ∙ (at_rest images).pending f ∙ ap settled (sym same.1)
 
-        before_now : LeavesSince disk.moment disk (λ image. IsBefore d.shards d.shard image (head.m ∷ head.marks) start (E ++ C))
+        before_now : LeavesSince disk.moment disk (λ image. MayBeWrittenOn d.shards d.shard image (head.m ∷ head.marks) start (E ++ C))
         before_now = (done tells).extended d.shards d.shard head.m head.marks start C E (may images)
 
         holds_now : LeavesSince disk.moment disk (HoldsPrefix d.shards d.shard start (E ++ C) (length (E ++ C)))
         holds_now k image low high is = record { later = []; prefix = E ++ C; all = refl; enough = omega arith; holds = (before_now k image low high is).fit }
 
-        tops_now : tops ≡ raised buffers.top d.tops → LeavesSince disk.moment disk (ShowTops d.list tops)
+        tops_now : tops ≡ last_top_raised buffers.top d.tops → LeavesSince disk.moment disk (ShowTops d.list tops)
         tops_now are k image low high is =
             let now : k ≡ disk.moment = omega arith in
             let is_now : IsImageAt disk disk.moment image = subst (λ n. IsImageAt disk n image) now is in
@@ -200,7 +200,7 @@ module _ (d : Shown) (buffers : Buffers) (start : Start) (h : History) (begins :
             (subst (λ f. gates (image f) ≡ with_body buffers.log.items (gates (d.disk.seen f))) (may images).current_log (ap gates log_is ∙ (done tells).has_log))))
 
     module _ (same_faults : faults ≡ d.faults) (same_keys : keys.file ≡ d.keys.file) (same_log : log.file ≡ d.log.file) (empty : AreEmpty left)
-        (raised_tops : tops ≡ raised buffers.top d.tops) (same_stop : stopped ≡ d.stopped) (counted : written ≡ d.written + buffers.changes)
+        (raised_tops : tops ≡ last_top_raised buffers.top d.tops) (same_stop : stopped ≡ d.stopped) (counted : written ≡ d.written + buffers.changes)
         (done : (t : IsTrue d.tells) → Done d buffers disk keys log) where
       running_on : IsRunning new start (share_done disk.moment start h)
       running_on = record {
@@ -215,7 +215,7 @@ module _ (d : Shown) (buffers : Buffers) (start : Start) (h : History) (begins :
         ensured = λ t. (marks_stay done t, (done t).keys_ready, (done t).log_ready);
       }
 
-      pub stands_done : StandsFor new start (share_done disk.moment start h)
+      pub stands_done : DeviceStandsFor new start (share_done disk.moment start h)
       stands_done = record {
         shards_are = stood.shards_are;
         shard_is = stood.shard_is;
@@ -240,7 +240,7 @@ module _ (d : Shown) (buffers : Buffers) (start : Start) (h : History) (begins :
                   prefix = E ++ C;
                   all = refl;
                   exact = refl;
-                  before = subst (λ l. IsBefore d.shards d.shard image l start (E ++ C)) (sym head.are) (before_now done t same_keys same_log images k image least most is);
+                  before = subst (λ l. MayBeWrittenOn d.shards d.shard image l start (E ++ C)) (sym head.are) (before_now done t same_keys same_log images k image least most is);
                 };
                 tops = tops_now done t same_keys same_log images raised_tops;
               });

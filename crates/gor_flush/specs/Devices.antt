@@ -3,17 +3,17 @@ use Rattle.std.specs.Prelude.{◌≡◌, ℕ, ◌+◌, ◌≤◌, List, [], ◌�
 use Rattle.std.specs.List.{AllByRecursion}
 use Rattle.gor_disk.specs.declared.disk.FileId.TheVariants.{Marks, Keys, Log}
 use Rattle.gor_disk.specs.Disk.{DiskView, Contents, LeavesSince, NothingPending, Rose}
-use Rattle.gor_gate.specs.Places.{Place, IsEnsured}
+use Rattle.gor_gate.specs.Places.{GatedPlace, IsEnsured}
 use Rattle.gor_model.specs.declared.event.Change.{Change}
 use Rattle.gor_model.specs.declared.start.Start.{Start}
 use Rattle.gor_model.specs.Shares.{DoneAt, DeviceShare, Share, OfDevice}
 use Rattle.gor_marks.specs.declared.mark.Mark.{Mark}
 use Rattle.gor_journal.specs.declared.buffers.Buffers.{Buffers}
 use Rattle.gor_journal.specs.Bodies.{AreEmpty}
-use Rattle.gor_image.specs.Records.{Batch}
+use Rattle.gor_image.specs.Records.{BatchInLog}
 use Rattle.gor_image.specs.Images.{current, remaining_logs, read_logs, top_of}
 use Rattle.gor_image.specs.Fit.{FitHolds}
-use Rattle.gor_image.specs.Laws.{IsBefore}
+use Rattle.gor_image.specs.Laws.{MayBeWrittenOn}
 use Rattle.gor_image.specs.MarkLists.{AreMarks, AreBehind}
 use Rattle.gor_recover.specs.Recovered.{AreTops}
 use Rattle.gor_recover.specs.declared.recovered.LogTop.{LogTop}
@@ -30,9 +30,9 @@ pub record Shown : Type 0 where
   pub faults : ℕ
   pub shards : ℕ
   pub shard : ℕ
-  pub marks : Place
-  pub keys : Place
-  pub log : Place
+  pub marks : GatedPlace
+  pub keys : GatedPlace
+  pub log : GatedPlace
   pub list : List Mark
   pub tops : List LogTop
   pub buffers : Buffers
@@ -45,8 +45,8 @@ pub record Shown : Type 0 where
   pub last_faults : ℕ
 
 -- by what a disk tells
-abbrev pub shown : {D : Type 0} → Bool → (D → DiskView) → (D → ℕ) → Device D → Shown
-shown tells view faults d = record {
+abbrev pub device_shown : {D : Type 0} → Bool → (D → DiskView) → (D → ℕ) → Device D → Shown
+device_shown tells view faults d = record {
   tells = tells;
   disk = view d.disk;
   faults = faults d.disk;
@@ -88,11 +88,11 @@ NoneAbove done (d ∷ older) = (d.moment ≤ done.moment) × (d.count ≤ done.c
 
 -- Neither moments nor counts fall, none of the moments is before the opening or still to come, and every image of every
 -- moment since each has at least its count of changes. The newest stands first.
-abbrev pub Kept : Shown → Start → List Change → List DoneAt → Type 0
-Kept d start C [] = ⊤
-Kept d start C (done ∷ older) =
+abbrev pub DonesAreKept : Shown → Start → List Change → List DoneAt → Type 0
+DonesAreKept d start C [] = ⊤
+DonesAreKept d start C (done ∷ older) =
     (d.opened ≤ done.moment) × (done.moment ≤ d.disk.moment) × LeavesSince done.moment d.disk (HoldsPrefix d.shards d.shard start C done.count)
-    × NoneAbove done older × Kept d start C older
+    × NoneAbove done older × DonesAreKept d start C older
 
 -- the count of changes that the last Done answers
 abbrev pub last_count : List DoneAt → ℕ
@@ -105,14 +105,14 @@ pub record HoldsExactly (d : Shown) (start : Start) (C : List Change) (n : ℕ) 
   pub prefix : List Change
   pub all : later ++ prefix ≡ C
   pub exact : length prefix ≡ n
-  pub before : IsBefore d.shards d.shard image d.list start prefix
+  pub before : MayBeWrittenOn d.shards d.shard image d.list start prefix
 
 abbrev pub Settled : Shown → Start → List Change → ℕ → Type 0
 Settled d start C n = LeavesSince d.disk.moment d.disk (HoldsExactly d start C n)
 
 -- each log that remains is shown with the greatest window of its puts
 pub record ShowTops (list : List Mark) (shown : List LogTop) (image : Contents) : Type 0 where
-  pub batches : List Batch
+  pub batches : List BatchInLog
   pub read : read_logs image (remaining_logs list) [] ≡ Ok batches
   pub tops : AllByRecursion (λ t. t.top ≡ top_of t.log batches) shown
 
@@ -146,23 +146,23 @@ StillBy false d = ⊤
 
 -- ---- what it is where the disk tells its contents and the files were fit at the opening
 
-pub record IsSettled (d : Shown) (start : Start) (share : DeviceShare) : Type 0 where
+pub record DeviceIsSettled (d : Shown) (start : Start) (share : DeviceShare) : Type 0 where
   pub pending : NothingPending d.disk
   pub settled : Settled d start share.taken (last_count share.dones)
   pub tops : LeavesSince d.disk.moment d.disk (ShowTops d.list d.tops)
 
 abbrev pub SettledBy : Bool → Shown → Start → DeviceShare → Type 0
 SettledBy true d start share = ⊤
-SettledBy false d start share = IsSettled d start share
+SettledBy false d start share = DeviceIsSettled d start share
 
 pub record HoldsAll (d : Shown) (start : Start) (share : DeviceShare) : Type 0 where
   pub prefixes : Prefixes d start share.taken
-  pub kept : Kept d start share.taken share.dones
+  pub kept : DonesAreKept d start share.taken share.dones
   pub now : SettledBy share.stopped d start share
 
 -- ---- a device stands for the share of its shard's history
 
-pub record StandsFor (d : Shown) (start : Start) (share : DeviceShare) : Type 0 where
+pub record DeviceStandsFor (d : Shown) (start : Start) (share : DeviceShare) : Type 0 where
   pub shards_are : d.shards ≡ start.shards
   pub shard_is : d.shard ≡ start.shard
   pub opened : d.opened ≡ start.since
@@ -175,5 +175,5 @@ pub record StandsFor (d : Shown) (start : Start) (share : DeviceShare) : Type 0 
 
 -- as the value of an object: whatever the object's number, the share is that of a device
 abbrev pub device_stands : Start → ℕ → Shown → Share → Type 0
-device_stands start o device (OfDevice share) = StandsFor device start share
+device_stands start o device (OfDevice share) = DeviceStandsFor device start share
 device_stands start o device _ = ⊥

@@ -32,11 +32,11 @@ abbrev pub drops : ℕ → ℕ → ℕ → Mark → Bool
 drops before window v (Home n s) = false
 drops before window v (Sealed w k u f) = nat_eq v w && (nat_lt before (w + 12) && nat_le (w + 12) window)
 
-abbrev pub is_block_of : ℕ → ℕ → List Mark → FileId → Bool
-is_block_of before window marks Marks = false
-is_block_of before window marks (Keys k) = false
-is_block_of before window marks (Log l) = false
-is_block_of before window marks (Block v) = list_any (drops before window v) marks
+abbrev pub is_dropped_block : ℕ → ℕ → List Mark → FileId → Bool
+is_dropped_block before window marks Marks = false
+is_dropped_block before window marks (Keys k) = false
+is_dropped_block before window marks (Log l) = false
+is_dropped_block before window marks (Block v) = list_any (drops before window v) marks
 
 abbrev pub is_this_list : ℕ → FileId → Bool
 is_this_list k Marks = false

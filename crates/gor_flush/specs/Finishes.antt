@@ -8,23 +8,23 @@ use Rattle.gor_model.specs.Shares.{DeviceShare}
 use Rattle.gor_model.specs.SharesAfter.{device_done}
 use Rattle.gor_model.specs.declared.start.Start.{Start}
 use Rattle.gor_image.specs.Fit.{FitHolds}
-use Rattle.gor_image.specs.Laws.{IsBefore}
+use Rattle.gor_image.specs.Laws.{MayBeWrittenOn}
 use Rattle.gor_image.specs.MarkLists.{AreBehind}
-use Rattle.gor_flush.specs.Devices.{Shown, ShowTops, StandsFor}
-use Rattle.gor_flush.specs.Takes.{HasTaken, share_taken}
+use Rattle.gor_flush.specs.Devices.{Shown, ShowTops, DeviceStandsFor}
+use Rattle.gor_flush.specs.Takes.{HoldsTaken, share_taken}
 
 -- ---- a Take that is written, and not yet Done
 
 -- The Take of this share was written at a moment: from then on every image has its changes, so that the device stands for what the
 -- share is with a Done of that moment.
-pub record IsWritten (d : Shown) (start : Start) (share : DeviceShare) : Type 0 where
+pub record TakeIsWritten (d : Shown) (start : Start) (share : DeviceShare) : Type 0 where
   pub moment : ℕ
   pub come : moment ≤ d.disk.moment
-  pub stands : StandsFor d start (device_done None moment share)
+  pub stands : DeviceStandsFor d start (device_done None moment share)
 
 -- whatever was taken, it is written
 abbrev pub StandsWritten : Shown → Shown → Type 0
-StandsWritten old new = (start : Start) (h : History) → HasTaken old start h → IsWritten new start (share_taken start h)
+StandsWritten old new = (start : Start) (h : History) → HoldsTaken old start h → TakeIsWritten new start (share_taken start h)
 
 -- ---- the mark
 
@@ -33,7 +33,7 @@ StandsWritten old new = (start : Start) (h : History) → HasTaken old start h �
 pub record HasMarkOn (before old new : Shown) (start : Start) (share : DeviceShare) : Type 0 where
   pub pending : NothingPending old.disk
   pub runs : Runs (λ image. FitHolds before.shards before.shard image start share.taken) before.disk old.disk
-  pub now : LeavesSince old.disk.moment old.disk (λ image. IsBefore before.shards before.shard image new.list start share.taken)
+  pub now : LeavesSince old.disk.moment old.disk (λ image. MayBeWrittenOn before.shards before.shard image new.list start share.taken)
   pub tops : LeavesSince old.disk.moment old.disk (ShowTops new.list new.tops)
 
 -- Since a device stood for the share, calls on its disk wrote the new files and the mark, and none failed. The two new files and
@@ -50,4 +50,4 @@ pub record HasMark (before old new : Shown) (start : Start) (share : DeviceShare
 
 -- whatever the device stood for before these calls, once it has turned it stands for that again
 abbrev pub StandsTurned : Shown → Shown → Type 0
-StandsTurned old new = (before : Shown) (start : Start) (share : DeviceShare) → StandsFor before start share → HasMark before old new start share → StandsFor new start share
+StandsTurned old new = (before : Shown) (start : Start) (share : DeviceShare) → DeviceStandsFor before start share → HasMark before old new start share → DeviceStandsFor new start share

@@ -1,14 +1,14 @@
 -- The mark that a finish appends, by the marks before it and the logs that remain.
 use Rattle.std.specs.Prelude.{◌≡◌, ℕ, ◌+◌, ◌<◌, nat_lt, nat_le, List, [], ◌∷◌, ◌++◌, map, filter, Option, Some, None, Bool, false, vec_len, vec_capacity}
 use Rattle.gor_disk.specs.declared.disk.FileId.TheVariants.{Keys, Log}
-use Rattle.gor_gate.specs.Places.{Place}
+use Rattle.gor_gate.specs.Places.{GatedPlace}
 use Rattle.gor_marks.specs.declared.mark.Mark.{Mark}
 use Rattle.gor_marks.specs.declared.mark.Mark.TheVariants.{Home, Sealed}
 use Rattle.gor_image.specs.Images.{current}
 use Rattle.gor_recover.specs.declared.recovered.LogTop.{LogTop}
 use Rattle.gor_flush.specs.declared.device.Device.{Device}
 use Rattle.gor_flush.specs.Devices.{Shown}
-use Rattle.gor_flush.specs.Writes.{raised}
+use Rattle.gor_flush.specs.Writes.{last_top_raised}
 
 -- there is a window, and it is above this one
 abbrev pub is_later : ℕ → Option ℕ → Bool
@@ -25,7 +25,7 @@ first_needed window next tops = first_or next (map (λ t. t.log) (filter (λ t. 
 
 -- the sealed mark of a window that comes next, where the current log also gets puts of which `top` is the greatest window
 abbrev pub next_mark : ℕ → ℕ → Option ℕ → List Mark → List LogTop → Mark
-next_mark window upto top marks tops = Sealed window (current marks + 1) upto (first_needed window (current marks + 1) (raised top tops))
+next_mark window upto top marks tops = Sealed window (current marks + 1) upto (first_needed window (current marks + 1) (last_top_raised top tops))
 
 -- the logs from a number on, and a new one without puts behind them
 abbrev pub turned_tops : Mark → List LogTop → List LogTop
@@ -38,7 +38,7 @@ pub record HasRoomToTurn {D : Type 0} (d : Device D) : Type 0 where
   pub tops : vec_len d.tops < vec_capacity d.tops
 
 -- the files that a mark begins
-abbrev pub AreFilesOf : Mark → Place → Place → Type 0
+abbrev pub AreFilesOf : Mark → GatedPlace → GatedPlace → Type 0
 AreFilesOf (Home n s) keys log = (keys.file ≡ Keys 0) × (log.file ≡ Log 0)
 AreFilesOf (Sealed w k u f) keys log = (keys.file ≡ Keys k) × (log.file ≡ Log k)
 

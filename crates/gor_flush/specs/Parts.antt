@@ -8,11 +8,11 @@ use Rattle.gor_dir.specs.Listings.{directory_stands}
 use Rattle.gor_journal.specs.Stands.{journal_stands}
 use Rattle.gor_flush.specs.declared.part.Part.{Part}
 use Rattle.gor_flush.specs.declared.part.Part.TheVariants.{Device, Directory, Series, Journal}
-use Rattle.gor_flush.specs.Devices.{shown, device_stands}
+use Rattle.gor_flush.specs.Devices.{device_shown, device_stands}
 
 -- the value is that of an object of its kind, and stands for its share, by what its disk tells
 abbrev pub part_stands : {D : Type 0} → Bool → (D → DiskView) → (D → ℕ) → Start → ℕ → Part D → Share → Type 0
-part_stands tells view faults start o (Device d) share = device_stands start o (shown tells view faults d) share
+part_stands tells view faults start o (Device d) share = device_stands start o (device_shown tells view faults d) share
 part_stands tells view faults start o (Directory d) share = directory_stands start o d share
 part_stands tells view faults start o (Series c) share = cell_stands start o c share
 part_stands tells view faults start o (Journal j) share = journal_stands start o j share
@@ -22,14 +22,14 @@ abbrev pub IsDevice : {D : Type 0} → Part D → Type 0
 IsDevice (Device d) = ⊤
 IsDevice _ = ⊥
 
-abbrev pub IsDirectory : {D : Type 0} → Part D → Type 0
-IsDirectory (Directory d) = ⊤
-IsDirectory _ = ⊥
+abbrev pub IsDirectoryPart : {D : Type 0} → Part D → Type 0
+IsDirectoryPart (Directory d) = ⊤
+IsDirectoryPart _ = ⊥
 
-abbrev pub IsSeries : {D : Type 0} → Part D → Type 0
-IsSeries (Series c) = ⊤
-IsSeries _ = ⊥
+abbrev pub IsSeriesPart : {D : Type 0} → Part D → Type 0
+IsSeriesPart (Series c) = ⊤
+IsSeriesPart _ = ⊥
 
-abbrev pub IsJournal : {D : Type 0} → Part D → Type 0
-IsJournal (Journal j) = ⊤
-IsJournal _ = ⊥
+abbrev pub IsJournalPart : {D : Type 0} → Part D → Type 0
+IsJournalPart (Journal j) = ⊤
+IsJournalPart _ = ⊥

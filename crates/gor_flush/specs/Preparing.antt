@@ -6,7 +6,7 @@ use Rattle.gor_image.specs.DiskSteps.{GoesOn}
 use Rattle.gor_marks.specs.declared.mark.Mark.{Mark}
 use Rattle.gor_marks.specs.declared.mark.Mark.TheVariants.{Home}
 use Rattle.gor_recover.specs.declared.recovered.Recovered.{Recovered}
-use Rattle.gor_flush.specs.Opening.{IsOpened}
+use Rattle.gor_flush.specs.Opening.{DiskIsOpened}
 
 -- those that were there, or the first of a fresh store
 abbrev pub device_marks : ℕ → ℕ → List Mark → List Mark
@@ -15,7 +15,7 @@ device_marks shards shard (m ∷ marks) = m ∷ marks
 
 -- an opening at a home ends so, with the marks and the logs that were recovered
 abbrev pub OpensHome : ℕ → ℕ → Recovered → DiskView → DiskView → Type 0
-OpensHome shards shard found old new = IsOpened shards shard old.seen (device_marks shards shard found.marks.items) found.tops.items new
+OpensHome shards shard found old new = DiskIsOpened shards shard old.seen (device_marks shards shard found.marks.items) found.tops.items new
 
 -- a device of this home, whose opening began with the disk as it was handed in and met its files, which had failed so often and
 -- has not failed since

@@ -4,7 +4,7 @@ use Rattle.gor_model.specs.declared.start.Start.{Start}
 use Rattle.gor_flush.specs.FitTest.{is_fit}
 use Rattle.gor_recover.specs.Recovered.{keyed_row}
 use Rattle.gor_recover.specs.declared.recovered.Recovered.{Recovered}
-use Rattle.gor_flush.specs.Devices.{Shown, StandsFor}
+use Rattle.gor_flush.specs.Devices.{Shown, DeviceStandsFor}
 use Rattle.gor_model.specs.Shares.{device_share}
 
 -- with so many slots, of this home, at this moment of the disk's clock, where the disk had failed so often, of files that were
@@ -28,4 +28,4 @@ start_with slots r d = opened_start slots r d.shards d.shard d.opened d.begun (i
 
 -- the device stands for the share of the start that its history has by what was recovered
 abbrev pub StandsAtStart : ℕ → Recovered → Shown → Type 0
-StandsAtStart slots r d = StandsFor d (start_with slots r d) (device_share (start_with slots r d) [])
+StandsAtStart slots r d = DeviceStandsFor d (start_with slots r d) (device_share (start_with slots r d) [])

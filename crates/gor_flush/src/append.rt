@@ -3,7 +3,7 @@ ghost use Rattle.std.specs.Prelude.{◌≡◌, ◌≢◌, ◌≤◌, [], Ok, IsT
 ghost use Rattle.gor_disk.specs.Disk.{CountsFault};
 ghost use Rattle.gor_gate.specs.Places.{IsEnsured};
 ghost use Rattle.gor_journal.specs.Bodies.{AreEmpty, HasPlace};
-ghost use Rattle.gor_flush.specs.Flushes.{AreBodies, Extends, HasHead, OthersStay, HasBody, AppendsBody, AppendsInOrder};
+ghost use Rattle.gor_flush.specs.Flushes.{AreBodies, Extends, HasHead, OtherFilesStay, GainsBody, AppendsBody, AppendsInOrder};
 
 use gor_disk::{DeviceFault, Disk};
 use gor_gate::{Frame, Gated};
@@ -30,11 +30,11 @@ pub fn append_taken<D: Disk>(
     ensures key_file { keys.new.file ≡ keys.old.file }
     ensures log_file { log.new.file ≡ log.old.file }
     ensures any_moment { IsTrue D.tells → AppendsInOrder keys.old.file log.old.file buffers.old (D.view disk.old) (D.view disk.new) }
-    ensures others { IsTrue D.tells → OthersStay keys.old.file log.old.file (D.view disk.old) (D.view disk.new) }
+    ensures others { IsTrue D.tells → OtherFilesStay keys.old.file log.old.file (D.view disk.old) (D.view disk.new) }
     ensures keys { IsTrue D.tells → OnOk result (IsEnsured keys.new (D.view disk.new)) }
     ensures log { IsTrue D.tells → OnOk result (IsEnsured log.new (D.view disk.new)) }
-    ensures has_keys { IsTrue D.tells → OnOk result (HasBody keys.old.file buffers.old.keys.items (D.view disk.old) (D.view disk.new)) }
-    ensures has_log { IsTrue D.tells → OnOk result (HasBody log.old.file buffers.old.log.items (D.view disk.old) (D.view disk.new)) }
+    ensures has_keys { IsTrue D.tells → OnOk result (GainsBody keys.old.file buffers.old.keys.items (D.view disk.old) (D.view disk.new)) }
+    ensures has_log { IsTrue D.tells → OnOk result (GainsBody log.old.file buffers.old.log.items (D.view disk.old) (D.view disk.new)) }
     ensures changes { IsTrue D.tells → Extends result keys.old log.old buffers.old (D.view disk.old) (D.view disk.new) }
     ensures emptied { OnOk result (AreEmpty buffers.new) }
     ensures room { (vec_capacity buffers.new.keys ≡ vec_capacity buffers.old.keys) × (vec_capacity buffers.new.log ≡ vec_capacity buffers.old.log) }
@@ -60,7 +60,7 @@ fn append_body<D: Disk>(
     ensures file { gated.new.file ≡ gated.old.file }
     ensures any_moment { IsTrue D.tells → AppendsBody gated.old.file bytes.old.items (D.view disk.old) (D.view disk.new) }
     ensures ensured { IsTrue D.tells → OnOk result (IsEnsured gated.new (D.view disk.new)) }
-    ensures appended { IsTrue D.tells → OnOk result (HasBody gated.old.file bytes.old.items (D.view disk.old) (D.view disk.new)) }
+    ensures appended { IsTrue D.tells → OnOk result (GainsBody gated.old.file bytes.old.items (D.view disk.old) (D.view disk.new)) }
     ensures emptied { OnOk result (bytes.new.items ≡ []) }
     ensures room { vec_capacity bytes.new ≡ vec_capacity bytes.old }
     ensures nothing { bytes.old.items ≡ [] → (disk.new ≡ disk.old) × (result ≡ Ok tt) }

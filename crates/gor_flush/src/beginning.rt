@@ -5,8 +5,8 @@ ghost use Rattle.gor_disk.specs.Disk.{NothingPending, CountsFault};
 ghost use Rattle.gor_gate.specs.Gates.{gates};
 ghost use Rattle.gor_image.specs.Images.{read_logs};
 ghost use Rattle.gor_recover.specs.Openings.{CountsOpenFault};
-ghost use Rattle.gor_marks.specs.Spelling.{InLimits, spelling};
-ghost use Rattle.gor_flush.specs.Opening.{AreFiles, AreEnsured, Begins, HasEmptyFirst, IsBegun, IsNoDamage, IsUnmarked, is_first};
+ghost use Rattle.gor_marks.specs.Spelling.{MarkInLimits, mark_spelling};
+ghost use Rattle.gor_flush.specs.Opening.{AreFiles, AreEnsured, BeginsStore, HasEmptyFirst, HasFirstMark, IsNoDamage, IsUnmarked, is_first};
 ghost use Rattle.gor_image.specs.DiskSteps.{GoesOn, IsGone, Keeps, Leaves};
 
 use crate::dropping::clear;
@@ -59,14 +59,14 @@ pub(crate) fn begin<D: Disk>(
     shards: u32,
     shard: u32,
 ) -> Result<CurrentFiles, OpenFault>
-    requires home { InLimits (Mark.Home shards shard) }
-    requires frame { frame.old.body ≡ spelling (Mark.Home shards shard) }
+    requires home { MarkInLimits (Mark.Home shards shard) }
+    requires frame { frame.old.body ≡ mark_spelling (Mark.Home shards shard) }
     requires pending { IsTrue D.tells → NothingPending (D.view disk.old) }
     ensures files { IfOk result (AreFiles 0) }
     ensures ensured { IsTrue D.tells → IfOk result (λ r. AreEnsured r (D.view disk.new)) }
     ensures goes { IsTrue D.tells → GoesOn (D.view disk.old) (D.view disk.new) }
-    ensures kept { IsTrue D.tells → Begins shards shard (D.view disk.old) (D.view disk.new) }
-    ensures begun { IsTrue D.tells → IsUnmarked ((D.view disk.old).seen) → OnOk result (IsBegun shards shard ((D.view disk.new).seen)) }
+    ensures kept { IsTrue D.tells → BeginsStore shards shard (D.view disk.old) (D.view disk.new) }
+    ensures begun { IsTrue D.tells → IsUnmarked ((D.view disk.old).seen) → OnOk result (HasFirstMark shards shard ((D.view disk.new).seen)) }
     ensures rest { IsTrue D.tells → OnOk result (NothingPending (D.view disk.new)) }
     ensures logs { IsTrue D.tells → OnOk result (read_logs ((D.view disk.new).seen) (0 ∷ []) [] ≡ Ok []) }
     ensures whole { IsTrue D.tells → (gates ((D.view disk.old).seen Marks)).whole ≡ true → IfErr result IsNoDamage }

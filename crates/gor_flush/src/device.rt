@@ -12,7 +12,7 @@ use std::snapshot::Snapshot;
 
 /// The value under a shard's device lock: its disk, the gated files that are appended to, and what it knows of the marks.
 ///
-/// Contracts see of it what `Shown` of `specs/Devices` names. `StandsFor` there says for which share of the shard's history it
+/// Contracts see of it what `Shown` of `specs/Devices` names. `DeviceStandsFor` there says for which share of the shard's history it
 /// stands; from its opening on, every image of every moment of a disk that was fit holds the map after a prefix of the shard's
 /// changes, never fewer than those of the last answered flush.
 #[derive(Drop)]
@@ -40,9 +40,9 @@ pub struct Device<D: Disk> {
 }
 
 impl<D: Disk> Thing for Device<D> {
-    ghost use Rattle.gor_flush.specs.Devices.{shown, device_stands};
+    ghost use Rattle.gor_flush.specs.Devices.{device_shown, device_stands};
 
-    ghost stands = { λ start o device share. device_stands start o (shown D.tells D.view D.faults device) share };
+    ghost stands = { λ start o device share. device_stands start o (device_shown D.tells D.view D.faults device) share };
 }
 
 impl<D: Disk> Device<D> {

@@ -1,10 +1,10 @@
 //! Files that the last mark replaces are cut to nothing.
 ghost use Rattle.std.specs.Prelude.{None, IfSome, ◌≡◌, ◌≤◌, ◌<◌, ◌++◌, [], ◌∷◌, ℕ, true, IsTrue, OnOk, ⊤};
 ghost use Rattle.gor_disk.specs.declared.disk.FileId.{FileId as Name};
-ghost use Rattle.gor_disk.specs.Disk.{Touches, CountsFault};
+ghost use Rattle.gor_disk.specs.Disk.{TouchesFile, CountsFault};
 ghost use Rattle.gor_image.specs.Images.{first_log_of, base_of, or_zero};
 ghost use Rattle.gor_image.specs.ReadFiles.{KeepsBefore, earlier, is_replaced};
-ghost use Rattle.gor_flush.specs.Dropping.{AreSomeMarks, AreDropped, is_log_in, is_block_of, drops};
+ghost use Rattle.gor_flush.specs.Dropping.{AreSomeMarks, AreDropped, is_log_in, is_dropped_block, drops};
 ghost use Rattle.gor_image.specs.DiskSteps.{Leaves, IsGone};
 
 use gor_disk::{DeviceFault, Disk, FileId};
@@ -15,7 +15,7 @@ const LIVE_WINDOWS: u64 = 12;
 
 /// Cuts a file to no bytes, and makes that stable.
 pub(crate) fn clear<D: Disk>(disk: &mut D, file: FileId) -> Result<(), DeviceFault>
-    ensures touched { IsTrue D.tells → Touches file (λ bytes. ⊤) (D.view disk.old) (D.view disk.new) }
+    ensures touched { IsTrue D.tells → TouchesFile file (λ bytes. ⊤) (D.view disk.old) (D.view disk.new) }
     ensures gone { IsTrue D.tells → OnOk result (IsGone file (D.view disk.new)) }
     ensures cause { CountsFault result (D.faults disk.old) (D.faults disk.new) }
 {
@@ -46,7 +46,7 @@ fn clear_block<D: Disk>(
     before: u32,
     window: u32,
 ) -> Result<(), DeviceFault>
-    ensures touched { IsTrue D.tells → Leaves (is_block_of before window (mark ∷ [])) (D.view disk.old) (D.view disk.new) }
+    ensures touched { IsTrue D.tells → Leaves (is_dropped_block before window (mark ∷ [])) (D.view disk.old) (D.view disk.new) }
     ensures gone { IsTrue D.tells → OnOk result ((v : ℕ) → drops before window v mark ≡ true → IsGone (Name.Block v) (D.view disk.new)) }
     ensures cause { CountsFault result (D.faults disk.old) (D.faults disk.new) }
 {
@@ -65,8 +65,8 @@ fn clear_blocks<D: Disk>(
     before: u32,
     window: u32,
 ) -> Result<(), DeviceFault>
-    ensures touched { IsTrue D.tells → Leaves (is_block_of before window earlier.now) (D.view disk.old) (D.view disk.new) }
-    ensures gone { IsTrue D.tells → OnOk result ((v : ℕ) → is_block_of before window earlier.now (Name.Block v) ≡ true → IsGone (Name.Block v) (D.view disk.new)) }
+    ensures touched { IsTrue D.tells → Leaves (is_dropped_block before window earlier.now) (D.view disk.old) (D.view disk.new) }
+    ensures gone { IsTrue D.tells → OnOk result ((v : ℕ) → is_dropped_block before window earlier.now (Name.Block v) ≡ true → IsGone (Name.Block v) (D.view disk.new)) }
     ensures cause { CountsFault result (D.faults disk.old) (D.faults disk.new) }
 {
     for mark in earlier {

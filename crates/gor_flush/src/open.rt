@@ -2,12 +2,12 @@
 ghost use Rattle.std.specs.Prelude.{◌≡◌, ◌≤◌, IsTrue, IfOk, IfErr, OnOk, MatchResult};
 ghost use Rattle.gor_disk.specs.Disk.{NothingPending};
 ghost use Rattle.gor_model.specs.Windows.{slots_of_a_shard};
-ghost use Rattle.gor_flush.specs.Found.{Found};
+ghost use Rattle.gor_flush.specs.Found.{IsFound};
 ghost use Rattle.gor_image.specs.Images.{current, opens_to};
-ghost use Rattle.gor_recover.specs.Openings.{CountsOpenFault, FaultCounts, IsMet};
+ghost use Rattle.gor_recover.specs.Openings.{CountsOpenFault, OpenFaultCounts, IsMet};
 ghost use Rattle.gor_recover.specs.Recovered.{IsRecovered};
 ghost use Rattle.gor_marks.specs.Spelling.{IsHome};
-ghost use Rattle.gor_flush.specs.Devices.{shown};
+ghost use Rattle.gor_flush.specs.Devices.{device_shown};
 ghost use Rattle.gor_flush.specs.Dropping.{AreDropped};
 ghost use Rattle.gor_flush.specs.Opening.{AreFiles, AreEnsured, HoldsOn, IsUnwritten};
 ghost use Rattle.gor_flush.specs.Preparing.{BeginsAt, device_marks, OpensHome};
@@ -49,7 +49,7 @@ fn get_ready<D: Disk>(
     requires slots { slots ≤ slots_of_a_shard }
     requires pending { IsTrue D.tells → NothingPending (D.view disk.old) }
     ensures recovered { IfOk result (λ r. IsRecovered shards shard slots r.recovered) }
-    ensures found { IsTrue D.tells → IfOk result (λ r. Found shards shard slots ((D.view disk.old).seen) r.recovered) }
+    ensures found { IsTrue D.tells → IfOk result (λ r. IsFound shards shard slots ((D.view disk.old).seen) r.recovered) }
     ensures list { IfOk result (λ r. r.prepared.list.items ≡ device_marks shards shard r.recovered.marks.items) }
     ensures tops { IfOk result (λ r. r.prepared.tops.items ≡ r.recovered.tops.items) }
     ensures files { IfOk result (λ r. AreFiles (current (device_marks shards shard r.recovered.marks.items)) r.prepared.files) }
@@ -91,10 +91,10 @@ impl<D: Disk> Device<D> {
         requires home { IsHome shards shard }
         requires slots { slots ≤ slots_of_a_shard }
         requires pending { IsTrue D.tells → NothingPending (D.view disk) }
-        ensures device { IfOk result (λ r. StandsAtStart slots r.1 (shown D.tells D.view D.faults r.0)) }
-        ensures begins { IfOk result (λ r. BeginsAt shards shard (D.view disk) (D.faults disk) (shown D.tells D.view D.faults r.0)) }
+        ensures device { IfOk result (λ r. StandsAtStart slots r.1 (device_shown D.tells D.view D.faults r.0)) }
+        ensures begins { IfOk result (λ r. BeginsAt shards shard (D.view disk) (D.faults disk) (device_shown D.tells D.view D.faults r.0)) }
         ensures recovered { IfOk result (λ r. IsRecovered shards shard slots r.1) }
-        ensures found { IsTrue D.tells → IfOk result (λ r. Found shards shard slots ((D.view disk).seen) r.1) }
+        ensures found { IsTrue D.tells → IfOk result (λ r. IsFound shards shard slots ((D.view disk).seen) r.1) }
         ensures held_ok { IsTrue D.tells → IfOk result (λ r. HoldsOn shards shard ((D.view disk).seen) (D.view disk) (D.view r.0.disk)) }
         ensures goes_err { IsTrue D.tells → IfErr result (λ e. GoesOn (D.view disk) (D.view e.disk)) }
         ensures held_err { IsTrue D.tells → IfErr result (λ e. HoldsOn shards shard ((D.view disk).seen) (D.view disk) (D.view e.disk)) }
@@ -102,7 +102,7 @@ impl<D: Disk> Device<D> {
         ensures dropped { IsTrue D.tells → IfOk result (λ r. AreDropped r.0.list.items (D.view r.0.disk)) }
         ensures unwritten { IsTrue D.tells → IfErr result (λ e. IsUnwritten e.fault (D.view disk) (D.view e.disk)) }
         ensures err { IsTrue D.tells → IfErr result (λ e. IsMet (opens_to ((D.view disk).seen) shards shard slots) e.fault) }
-        ensures cause { MatchResult result (λ r. D.faults r.0.disk ≡ D.faults disk) (λ e. FaultCounts e.fault (D.faults disk) (D.faults e.disk)) }
+        ensures cause { MatchResult result (λ r. D.faults r.0.disk ≡ D.faults disk) (λ e. OpenFaultCounts e.fault (D.faults disk) (D.faults e.disk)) }
     {
         let first = Snapshot::of(&disk);
         let mut disk = disk;

@@ -15,10 +15,10 @@ pub struct Opening<D: Disk> {
 }
 
 impl<D: Disk> Begins for Opening<D> {
-    ghost use Rattle.gor_flush.specs.Devices.{shown};
+    ghost use Rattle.gor_flush.specs.Devices.{device_shown};
     ghost use Rattle.gor_flush.specs.Starts.{start_with};
 
-    ghost start = { λ opening. start_with opening.slots opening.found.value (shown D.tells D.view D.faults opening.device.value) };
+    ghost start = { λ opening. start_with opening.slots opening.found.value (device_shown D.tells D.view D.faults opening.device.value) };
 }
 
 impl<D: Disk> Opening<D> {

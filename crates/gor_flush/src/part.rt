@@ -27,7 +27,7 @@ impl<D: Disk> Thing for Part<D> {
 
 impl<D: Disk> Part<D> {
     ghost use Rattle.std.specs.Prelude.{◌≡◌};
-    ghost use Rattle.gor_flush.specs.Parts.{IsDevice, IsDirectory, IsSeries, IsJournal};
+    ghost use Rattle.gor_flush.specs.Parts.{IsDevice, IsDirectoryPart, IsSeriesPart, IsJournalPart};
     ghost use Rattle.gor_flush.specs.declared.part.Part.TheVariants as part;
 
     /// The device that it is.
@@ -45,7 +45,7 @@ impl<D: Disk> Part<D> {
 
     /// The directory that it is.
     pub fn into_directory(self) -> Directory
-        requires { IsDirectory self }
+        requires { IsDirectoryPart self }
         ensures { self ≡ part.Directory result }
     {
         match self {
@@ -58,7 +58,7 @@ impl<D: Disk> Part<D> {
 
     /// The series that it is.
     pub fn into_series(self) -> Cell
-        requires { IsSeries self }
+        requires { IsSeriesPart self }
         ensures { self ≡ part.Series result }
     {
         match self {
@@ -71,7 +71,7 @@ impl<D: Disk> Part<D> {
 
     /// The journal that it is.
     pub fn into_journal(self) -> Journal
-        requires { IsJournal self }
+        requires { IsJournalPart self }
         ensures { self ≡ part.Journal result }
     {
         match self {

@@ -4,9 +4,9 @@ ghost use Rattle.gor_disk.specs.Disk.{NothingPending};
 ghost use Rattle.gor_image.specs.Images.{current};
 ghost use Rattle.gor_recover.specs.Openings.{CountsOpenFault};
 ghost use Rattle.gor_image.specs.MarkLists.{AreMarksOrNone};
-ghost use Rattle.gor_marks.specs.Spelling.{InLimits, spelling};
+ghost use Rattle.gor_marks.specs.Spelling.{MarkInLimits, mark_spelling};
 ghost use Rattle.gor_flush.specs.Dropping.{AreDropped};
-ghost use Rattle.gor_flush.specs.Opening.{AreFiles, AreEnsured, HoldsOn, IsFresh, IsNoDamage, IsOpened, IsStore, WasFound};
+ghost use Rattle.gor_flush.specs.Opening.{AreFiles, AreEnsured, HoldsOn, ShowsNothing, IsNoDamage, DiskIsOpened, IsStore, WasFound};
 ghost use Rattle.gor_flush.specs.Preparing.{device_marks, OpensHome};
 ghost use Rattle.gor_image.specs.DiskSteps.{GoesOn};
 
@@ -42,8 +42,8 @@ fn copy_tops(alloc: Global, tops: &[LogTop]) -> Result<Vec<LogTop>, AllocError>
 
 /// The body of a store's first mark.
 fn home_frame(alloc: Global, shards: u32, shard: u32) -> Result<Frame, AllocError>
-    requires { InLimits (Mark.Home shards shard) }
-    ensures { IfOk result (λ r. r.body ≡ spelling (Mark.Home shards shard)) }
+    requires { MarkInLimits (Mark.Home shards shard) }
+    ensures { IfOk result (λ r. r.body ≡ mark_spelling (Mark.Home shards shard)) }
 {
     let mut bytes = vec![in alloc; 0u8; 8]?;
     write_mark(&Mark::Home { shards, shard }, &mut bytes)?;
@@ -58,8 +58,8 @@ fn prepare_fresh<D: Disk>(
     shard: u32,
     tops: &[LogTop],
 ) -> Result<Prepared, OpenFault>
-    requires home { InLimits (Mark.Home shards shard) }
-    requires fresh { IsTrue D.tells → IsFresh ((D.view disk.old).seen) tops.now }
+    requires home { MarkInLimits (Mark.Home shards shard) }
+    requires fresh { IsTrue D.tells → ShowsNothing ((D.view disk.old).seen) tops.now }
     requires pending { IsTrue D.tells → NothingPending (D.view disk.old) }
     ensures list { IfOk result (λ r. r.list.items ≡ Mark.Home shards shard ∷ []) }
     ensures tops { IfOk result (λ r. r.tops.items ≡ tops.now) }
@@ -67,7 +67,7 @@ fn prepare_fresh<D: Disk>(
     ensures ensured { IsTrue D.tells → IfOk result (λ r. AreEnsured r.files (D.view disk.new)) }
     ensures goes { IsTrue D.tells → GoesOn (D.view disk.old) (D.view disk.new) }
     ensures held { IsTrue D.tells → HoldsOn shards shard ((D.view disk.old).seen) (D.view disk.old) (D.view disk.new) }
-    ensures opened { IsTrue D.tells → IfOk result (λ r. IsOpened shards shard ((D.view disk.old).seen) (Mark.Home shards shard ∷ []) tops.now (D.view disk.new)) }
+    ensures opened { IsTrue D.tells → IfOk result (λ r. DiskIsOpened shards shard ((D.view disk.old).seen) (Mark.Home shards shard ∷ []) tops.now (D.view disk.new)) }
     ensures dropped { IsTrue D.tells → IfOk result (λ r. AreDropped (Mark.Home shards shard ∷ []) (D.view disk.new)) }
     ensures undamaged { IsTrue D.tells → IfErr result IsNoDamage }
     ensures cause { CountsOpenFault result (D.faults disk.old) (D.faults disk.new) }
@@ -103,7 +103,7 @@ fn prepare_store<D: Disk>(
     ensures ensured { IsTrue D.tells → IfOk result (λ r. AreEnsured r.files (D.view disk.new)) }
     ensures goes { IsTrue D.tells → GoesOn (D.view disk.old) (D.view disk.new) }
     ensures held { IsTrue D.tells → HoldsOn shards shard ((D.view disk.old).seen) (D.view disk.old) (D.view disk.new) }
-    ensures opened { IsTrue D.tells → IfOk result (λ r. IsOpened shards shard ((D.view disk.old).seen) marks.now tops.now (D.view disk.new)) }
+    ensures opened { IsTrue D.tells → IfOk result (λ r. DiskIsOpened shards shard ((D.view disk.old).seen) marks.now tops.now (D.view disk.new)) }
     ensures dropped { IsTrue D.tells → IfOk result (λ r. AreDropped marks.now (D.view disk.new)) }
     ensures undamaged { IsTrue D.tells → IfErr result IsNoDamage }
     ensures cause { CountsOpenFault result (D.faults disk.old) (D.faults disk.new) }
@@ -127,7 +127,7 @@ pub(crate) fn prepare<D: Disk>(
     shard: u32,
     found: &Recovered,
 ) -> Result<Prepared, OpenFault>
-    requires home { InLimits (Mark.Home shards shard) }
+    requires home { MarkInLimits (Mark.Home shards shard) }
     requires marks { AreMarksOrNone shards shard found.now.marks.items }
     requires found { IsTrue D.tells → WasFound shards shard ((D.view disk.old).seen) found.now }
     requires pending { IsTrue D.tells → NothingPending (D.view disk.old) }

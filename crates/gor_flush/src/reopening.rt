@@ -3,9 +3,9 @@ ghost use Rattle.std.specs.Prelude.{◌≡◌, ◌≢◌, [], IsTrue, IfOk, IfEr
 ghost use Rattle.gor_disk.specs.Disk.{NothingPending, CountsFault};
 ghost use Rattle.gor_image.specs.Images.{current};
 ghost use Rattle.gor_recover.specs.Openings.{OnlyRead, CountsOpenFault};
-ghost use Rattle.gor_image.specs.ReadFiles.{KeepsBefore, ReadsAs};
+ghost use Rattle.gor_image.specs.ReadFiles.{KeepsBefore, ReadsAsGiven};
 ghost use Rattle.gor_flush.specs.Dropping.{AreDropped, AreSomeMarks};
-ghost use Rattle.gor_flush.specs.Opening.{AreFiles, AreRead, AreEnsured, AreWhole, IsNoDamage};
+ghost use Rattle.gor_flush.specs.Opening.{AreFiles, FilesAreRead, AreEnsured, NoneIsCut, IsNoDamage};
 ghost use Rattle.gor_image.specs.DiskSteps.{GoesOn};
 
 use crate::dropping::{drop_old, last_mark};
@@ -29,8 +29,8 @@ fn current_number(marks: &[Mark]) -> u32
 
 fn find_files<D: Disk>(alloc: Global, disk: &mut D, number: u32) -> Result<CurrentFiles, OpenFault>
     ensures files { IfOk result (AreFiles number) }
-    ensures read { IsTrue D.tells → IfOk result (λ r. AreRead r (D.view disk.new)) }
-    ensures whole { IsTrue D.tells → AreWhole number ((D.view disk.old).seen) → IfErr result IsNoDamage }
+    ensures read { IsTrue D.tells → IfOk result (λ r. FilesAreRead r (D.view disk.new)) }
+    ensures whole { IsTrue D.tells → NoneIsCut number ((D.view disk.old).seen) → IfErr result IsNoDamage }
     ensures same { IsTrue D.tells → OnlyRead (D.view disk.old) (D.view disk.new) }
     ensures cause { CountsOpenFault result (D.faults disk.old) (D.faults disk.new) }
 {
@@ -47,7 +47,7 @@ fn settle<D: Disk>(
     requires marks { AreSomeMarks marks.now }
     requires some { marks.now ≢ [] }
     requires files { AreFiles (current marks.now) files.old }
-    requires read { IsTrue D.tells → AreRead files.old (D.view disk.old) }
+    requires read { IsTrue D.tells → FilesAreRead files.old (D.view disk.old) }
     requires pending { IsTrue D.tells → NothingPending (D.view disk.old) }
     ensures files { AreFiles (current marks.now) files.new }
     ensures ensured { IsTrue D.tells → OnOk result (AreEnsured files.new (D.view disk.new)) }
@@ -55,7 +55,7 @@ fn settle<D: Disk>(
     ensures kept { IsTrue D.tells → KeepsBefore marks.now (D.view disk.old) (D.view disk.new) }
     ensures rest { IsTrue D.tells → OnOk result (NothingPending (D.view disk.new)) }
     ensures dropped { IsTrue D.tells → OnOk result (AreDropped marks.now (D.view disk.new)) }
-    ensures reads { IsTrue D.tells → OnOk result (ReadsAs marks.now ((D.view disk.old).seen) ((D.view disk.new).seen)) }
+    ensures reads { IsTrue D.tells → OnOk result (ReadsAsGiven marks.now ((D.view disk.old).seen) ((D.view disk.new).seen)) }
     ensures cause { CountsFault result (D.faults disk.old) (D.faults disk.new) }
 {
     let Ok(()) = ensure_all(disk, files) else {
@@ -80,8 +80,8 @@ pub(crate) fn reopen<D: Disk>(
     ensures kept { IsTrue D.tells → KeepsBefore marks.now (D.view disk.old) (D.view disk.new) }
     ensures rest { IsTrue D.tells → OnOk result (NothingPending (D.view disk.new)) }
     ensures dropped { IsTrue D.tells → OnOk result (AreDropped marks.now (D.view disk.new)) }
-    ensures reads { IsTrue D.tells → OnOk result (ReadsAs marks.now ((D.view disk.old).seen) ((D.view disk.new).seen)) }
-    ensures whole { IsTrue D.tells → AreWhole (current marks.now) ((D.view disk.old).seen) → IfErr result IsNoDamage }
+    ensures reads { IsTrue D.tells → OnOk result (ReadsAsGiven marks.now ((D.view disk.old).seen) ((D.view disk.new).seen)) }
+    ensures whole { IsTrue D.tells → NoneIsCut (current marks.now) ((D.view disk.old).seen) → IfErr result IsNoDamage }
     ensures cause { CountsOpenFault result (D.faults disk.old) (D.faults disk.new) }
 {
     let mut files = find_files(alloc, disk, current_number(marks))?;

@@ -3,13 +3,13 @@ ghost use Rattle.std.specs.Prelude.{◌≡◌, ◌+◌, ◌<◌, ◌≤◌, ◌^
 ghost use Rattle.gor_model.specs.Fields.{IsNumber};
 ghost use Rattle.gor_model.specs.Windows.{last_window};
 ghost use Rattle.gor_image.specs.Images.{base_of, current};
-ghost use Rattle.gor_image.specs.MarkLists.{AreMarks, MayFollow};
+ghost use Rattle.gor_image.specs.MarkLists.{AreMarks, MarkMayFollow};
 ghost use Rattle.gor_recover.specs.Recovered.{AreTops};
 ghost use Rattle.gor_image.specs.Recovery.{is_above};
-ghost use Rattle.gor_flush.specs.Devices.{shown};
+ghost use Rattle.gor_flush.specs.Devices.{device_shown};
 ghost use Rattle.gor_flush.specs.Finishes.{StandsTurned};
 ghost use Rattle.gor_flush.specs.NextMarks.{AreFilesOf, HasRoomToTurn, TurnsBeside, first_needed, is_later, next_mark, turned_tops};
-ghost use Rattle.gor_flush.specs.Writes.{raised};
+ghost use Rattle.gor_flush.specs.Writes.{last_top_raised};
 
 use crate::device::Device;
 use gor_disk::Disk;
@@ -32,7 +32,7 @@ impl<D: Disk> Device<D> {
         requires upto { IsNumber upto }
         requires stays { (base_of self.now.list.items).upto ≤ upto }
         ensures mark { result ≡ next_mark window upto top self.now.list.items self.now.tops.items }
-        ensures follows { MayFollow self.now.list.items result }
+        ensures follows { MarkMayFollow self.now.list.items result }
     {
         let keys = self.list.len() as u32;
         let first_log = first_needed(&self.tops, window, top, keys);
@@ -47,7 +47,7 @@ impl<D: Disk> Device<D> {
     /// Makes room for one mark and for one log more, so that the device can turn to them without memory. Where memory is
     /// wanting, the device shows what it showed before.
     pub fn reserve_mark(&mut self) -> Result<(), AllocError>
-        ensures same { shown D.tells D.view D.faults self.new ≡ shown D.tells D.view D.faults self.old }
+        ensures same { device_shown D.tells D.view D.faults self.new ≡ device_shown D.tells D.view D.faults self.old }
         ensures room { OnOk result (HasRoomToTurn self.new) }
     {
         self.list.reserve(1)?;
@@ -64,15 +64,15 @@ impl<D: Disk> Device<D> {
         requires room { HasRoomToTurn self.old }
         requires marks { AreMarks self.old.shards self.old.shard self.old.list.items }
         requires tops { AreTops self.old.list.items self.old.tops.items }
-        requires follows { MayFollow self.old.list.items mark }
+        requires follows { MarkMayFollow self.old.list.items mark }
         requires files { AreFilesOf mark keys log }
         ensures list { self.new.list.items ≡ self.old.list.items ++ mark ∷ [] }
         ensures marks { AreMarks self.new.shards self.new.shard self.new.list.items }
         ensures kept { self.new.tops.items ≡ turned_tops mark self.old.tops.items }
         ensures tops { AreTops self.new.list.items self.new.tops.items }
         ensures files { (self.new.keys ≡ keys) × (self.new.log ≡ log) }
-        ensures beside { TurnsBeside (shown D.tells D.view D.faults self.old) (shown D.tells D.view D.faults self.new) }
-        ensures stands { StandsTurned (shown D.tells D.view D.faults self.old) (shown D.tells D.view D.faults self.new) }
+        ensures beside { TurnsBeside (device_shown D.tells D.view D.faults self.old) (device_shown D.tells D.view D.faults self.new) }
+        ensures stands { StandsTurned (device_shown D.tells D.view D.faults self.old) (device_shown D.tells D.view D.faults self.new) }
     {
         turn_logs(mark, &mut self.tops);
         self.list.push_reserved(mark);
@@ -93,7 +93,7 @@ fn is_later(window: u32, top: Option<u32>) -> bool
 
 /// The first of the logs that has a put behind the window, where the last of them also gets puts up to `top`; else `next`.
 fn first_needed(tops: &[LogTop], window: u32, top: Option<u32>, next: u32) -> u32
-    ensures { result ≡ first_needed window next (raised top tops.now) }
+    ensures { result ≡ first_needed window next (last_top_raised top tops.now) }
 {
     for log in tops {
         if is_later(window, log.top) {

@@ -4,7 +4,7 @@ ghost use Rattle.gor_disk.specs.Disk.{CountsFault, Rose};
 ghost use Rattle.gor_gate.specs.Places.{IsEnsured};
 ghost use Rattle.gor_journal.specs.Bodies.{AreEmpty};
 ghost use Rattle.gor_journal.specs.Entries.{greater};
-ghost use Rattle.gor_flush.specs.Devices.{shown};
+ghost use Rattle.gor_flush.specs.Devices.{device_shown};
 ghost use Rattle.gor_flush.specs.Finishes.{StandsWritten};
 ghost use Rattle.gor_flush.specs.Keeps.{StandsStill, StopsAfter};
 ghost use Rattle.gor_flush.specs.Lending.{holding};
@@ -12,7 +12,7 @@ ghost use Rattle.gor_flush.specs.contracts.device.Device.{the_row};
 ghost use Rattle.gor_journal.specs.contracts.buffers.Buffers.{the_row as buffers_row};
 ghost use Rattle.std.specs.Borrow.{sem, follows};
 ghost use Rattle.gor_flush.specs.Takes.{StandsDone, StandsStopped};
-ghost use Rattle.gor_flush.specs.Writes.{CountsAll, MayWrite, raised};
+ghost use Rattle.gor_flush.specs.Writes.{CountsAll, MayWrite, last_top_raised};
 
 use crate::append::append_taken;
 use crate::device::Device;
@@ -38,8 +38,8 @@ impl<D: Disk> Device<D> {
         ensures disk { self.new.disk ≡ self.old.disk }
         ensures stopped { self.new.stopped ≡ true }
         ensures again { self.old.stopped ≡ true → self.new ≡ self.old }
-        ensures after { StopsAfter (shown D.tells D.view D.faults self.old) (shown D.tells D.view D.faults self.new) }
-        ensures stands { StandsStill (shown D.tells D.view D.faults self.old) (shown D.tells D.view D.faults self.new) }
+        ensures after { StopsAfter (device_shown D.tells D.view D.faults self.old) (device_shown D.tells D.view D.faults self.new) }
+        ensures stands { StandsStill (device_shown D.tells D.view D.faults self.old) (device_shown D.tells D.view D.faults self.new) }
     {
         if !self.stopped {
             self.stopped = true;
@@ -56,17 +56,17 @@ impl<D: Disk> Device<D> {
     /// comes only where the disk's count of faults rose. It stops the device, which is not to be written again.
     pub fn write_taken(&mut self) -> Result<u64, DeviceFault>
         requires running { self.old.stopped ≡ false }
-        requires may { MayWrite (shown D.tells D.view D.faults self.old) }
-        ensures done { OnOk result (StandsDone (shown D.tells D.view D.faults self.old) (shown D.tells D.view D.faults self.new)) }
-        ensures finish { OnOk result (StandsWritten (shown D.tells D.view D.faults self.old) (shown D.tells D.view D.faults self.new)) }
-        ensures count { CountsAll (shown D.tells D.view D.faults self.old) result }
+        requires may { MayWrite (device_shown D.tells D.view D.faults self.old) }
+        ensures done { OnOk result (StandsDone (device_shown D.tells D.view D.faults self.old) (device_shown D.tells D.view D.faults self.new)) }
+        ensures finish { OnOk result (StandsWritten (device_shown D.tells D.view D.faults self.old) (device_shown D.tells D.view D.faults self.new)) }
+        ensures count { CountsAll (device_shown D.tells D.view D.faults self.old) result }
         ensures key_file { self.new.keys.file ≡ self.old.keys.file }
         ensures log_file { self.new.log.file ≡ self.old.log.file }
         ensures keys { IsTrue D.tells → OnOk result (IsEnsured self.new.keys (D.view self.new.disk)) }
         ensures log { IsTrue D.tells → OnOk result (IsEnsured self.new.log (D.view self.new.disk)) }
         ensures emptied { OnOk result (AreEmpty self.new.buffers) }
         ensures stops { self.new.stopped ≡ is_err result }
-        ensures stopped { OnErr result (StandsStopped (shown D.tells D.view D.faults self.old) (shown D.tells D.view D.faults self.new)) }
+        ensures stopped { OnErr result (StandsStopped (device_shown D.tells D.view D.faults self.old) (device_shown D.tells D.view D.faults self.new)) }
         ensures cause { CountsFault result (D.faults self.old.disk) (D.faults self.new.disk) }
     {
         let changes = self.buffers.changes;
@@ -93,7 +93,7 @@ impl<D: Disk> Device<D> {
 
 /// Raises what the last log has, where there is one.
 fn raise_last(tops: &mut Vec<LogTop>, top: Option<u32>)
-    ensures { tops.new.items ≡ raised top tops.old.items }
+    ensures { tops.new.items ≡ last_top_raised top tops.old.items }
 {
     if let Some(last) = tops.last_mut() {
         last.top = greater(top, last.top);

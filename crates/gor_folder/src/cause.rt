@@ -200,14 +200,14 @@ pub fn top_of(path: &str) -> &'static str {
 
 /// A cause with its path: `store/shard.0/log.0: write: no space left on device`.
 #[derive(Clone, Copy)]
-pub struct Told<'a> {
+pub struct CauseWithPath<'a> {
     /// The path of the disk's folder.
     pub folder: &'a str,
     /// What was wrong with the disk.
     pub cause: Cause,
 }
 
-impl<'a> fmt::Display for Told<'a> {
+impl<'a> fmt::Display for CauseWithPath<'a> {
     fn fmt<W: fmt::Write>(&self, f: &mut fmt::Formatter<W>) -> fmt::Result {
         let (folder, reason) = (self.folder, self.cause.reason);
         match self.cause.place {

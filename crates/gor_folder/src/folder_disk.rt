@@ -2,7 +2,7 @@
 ghost use Rattle.std.specs.Prelude.{ℕ, ◌≡◌, ◌+◌, ◌^◌, ◌<◌, false, length, None, IfOk, OnOk, Ok, []};
 ghost use Rattle.gor_disk.specs.Disk.{CountsFault};
 
-use crate::cause::{Cause, Told};
+use crate::cause::{Cause, CauseWithPath};
 use crate::folder::{Folder, Purpose};
 use crate::held_file::HeldFile;
 use gor_disk::{Disk, DiskFailed, FileId};
@@ -53,11 +53,11 @@ where
     }
 
     /// The first failure, if there was one.
-    pub fn cause(&self) -> Option<Told<'_>>
+    pub fn cause(&self) -> Option<CauseWithPath<'_>>
         ensures { result ≡ None → self.now.faults ≡ 0 }
     {
         match self.cause {
-            Some(cause) => Some(Told {
+            Some(cause) => Some(CauseWithPath {
                 folder: self.folder.path(),
                 cause,
             }),

@@ -22,10 +22,10 @@ IsCutAt walk ReadFailed = Unit {0}
 IsCutAt walk NoMemory = Unit {0}
 
 -- the count of faults rises where the disk failed, and stays otherwise
-abbrev pub FaultCounts : GateFault → ℕ → ℕ → Type 0
-FaultCounts ReadFailed old new = Rose old new
-FaultCounts (Cut at) old new = new ≡ old
-FaultCounts NoMemory old new = new ≡ old
+abbrev pub GateFaultCounts : GateFault → ℕ → ℕ → Type 0
+GateFaultCounts ReadFailed old new = Rose old new
+GateFaultCounts (Cut at) old new = new ≡ old
+GateFaultCounts NoMemory old new = new ≡ old
 
 abbrev pub CountsReadFault : {T : Type 0} → Result T GateFault → ℕ → ℕ → Type 0
-CountsReadFault result old new = MatchResult result (λ _. new ≡ old) (λ fault. FaultCounts fault old new)
+CountsReadFault result old new = MatchResult result (λ _. new ≡ old) (λ fault. GateFaultCounts fault old new)

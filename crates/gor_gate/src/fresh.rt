@@ -1,8 +1,8 @@
 //! A gated file that holds nothing: it is begun without being read, so no memory is taken.
 ghost use Rattle.std.specs.Prelude.{◌≡◌, ◌+◌, ◌^◌, ◌<◌, [], ◌∷◌, true, length, IsTrue, IfOk, OnOk, ⊤};
-ghost use Rattle.gor_disk.specs.Disk.{DiskView, IsSettled, Touches, CountsFault};
-ghost use Rattle.gor_gate.specs.Gates.{gates, ended, pushed};
-ghost use Rattle.gor_gate.specs.Places.{IsRead, IsEnsured};
+ghost use Rattle.gor_disk.specs.Disk.{DiskView, IsSettled, TouchesFile, CountsFault};
+ghost use Rattle.gor_gate.specs.Gates.{gates, ended_walk, body_pushed};
+ghost use Rattle.gor_gate.specs.Places.{StandsForFile, IsEnsured};
 
 use crate::frames::{Frame, close};
 use crate::gated::Gated;
@@ -15,7 +15,7 @@ impl Gated {
         ensures file { result.file ≡ file }
         ensures gate { result.gate ≡ 0 }
         ensures len { result.len ≡ 0 }
-        ensures read { (disk : DiskView) → disk.seen file ≡ [] → IsRead result disk }
+        ensures read { (disk : DiskView) → disk.seen file ≡ [] → StandsForFile result disk }
     {
         Gated::at(file, 0, 0)
     }
@@ -32,9 +32,9 @@ impl Gated {
     ) -> Result<Gated, DiskFailed>
         requires { IsTrue D.tells → (D.view disk.old).seen file ≡ [] }
         ensures file { IfOk result (λ r. r.file ≡ file) }
-        ensures touched { IsTrue D.tells → Touches file (λ bytes. ⊤) (D.view disk.old) (D.view disk.new) }
+        ensures touched { IsTrue D.tells → TouchesFile file (λ bytes. ⊤) (D.view disk.old) (D.view disk.new) }
         ensures ensured { IsTrue D.tells → IfOk result (λ r. IsEnsured r (D.view disk.new)) }
-        ensures list { IsTrue D.tells → OnOk result (gates ((D.view disk.new).seen file) ≡ pushed frame.old.body (ended 0 true)) }
+        ensures list { IsTrue D.tells → OnOk result (gates ((D.view disk.new).seen file) ≡ body_pushed frame.old.body (ended_walk 0 true)) }
         ensures frame { frame.new.body ≡ frame.old.body }
         ensures spare { frame.new.spare ≡ frame.old.spare }
         ensures cause { CountsFault result (D.faults disk.old) (D.faults disk.new) }
@@ -51,7 +51,7 @@ impl Gated {
 /// Writes an open gate and a block behind it into an empty file, and has the file stable.
 fn first_block<D: Disk>(disk: &mut D, file: FileId, block: &[u8]) -> Result<(), DiskFailed>
     requires { IsTrue D.tells → (D.view disk.old).seen file ≡ [] }
-    ensures touched { IsTrue D.tells → Touches file (λ bytes. ⊤) (D.view disk.old) (D.view disk.new) }
+    ensures touched { IsTrue D.tells → TouchesFile file (λ bytes. ⊤) (D.view disk.old) (D.view disk.new) }
     ensures settled { IsTrue D.tells → OnOk result (IsSettled (D.view disk.new) file) }
     ensures bytes { IsTrue D.tells → OnOk result ((D.view disk.new).seen file ≡ 1 ∷ block.now) }
     ensures fits { OnOk result (1 + length block.now < 2 ^ 63) }

@@ -1,8 +1,8 @@
 //! A gated file.
 ghost use Rattle.std.specs.Prelude.{◌≡◌, ◌≢◌, ◌<◌, ◌≤◌, ◌^◌, [], ◌∷◌, IsTrue, OnOk};
-ghost use Rattle.gor_disk.specs.Disk.{IsSettled, Touches, CountsFault};
-ghost use Rattle.gor_gate.specs.Gates.{gates, IsClosed, pushed};
-ghost use Rattle.gor_gate.specs.Places.{IsRead, IsEnsured, AppendsTo, WritesByte};
+ghost use Rattle.gor_disk.specs.Disk.{IsSettled, TouchesFile, CountsFault};
+ghost use Rattle.gor_gate.specs.Gates.{gates, IsClosed, body_pushed};
+ghost use Rattle.gor_gate.specs.Places.{StandsForFile, IsEnsured, AppendsTo, WritesByte};
 
 use crate::appending::{append_block, shut_gate};
 use crate::frames::{Frame, close};
@@ -20,9 +20,9 @@ pub struct Gated {
 
 impl Model for Gated {
     ghost use Rattle.std.specs.Prelude.{◌^◌, ◌<◌};
-    ghost use Rattle.gor_gate.specs.Places.{Place};
+    ghost use Rattle.gor_gate.specs.Places.{GatedPlace};
 
-    ghost Value = { Place };
+    ghost Value = { GatedPlace };
 
     ghost view = { λ a. record { file = a.file; gate = a.gate; len = a.len } };
 
@@ -51,7 +51,7 @@ impl Gated {
         ensures file { self.new.file ≡ self.old.file }
         ensures any_moment { IsTrue D.tells → AppendsTo self.old.file frame.old.body (D.view disk.old) (D.view disk.new) }
         ensures ensured { IsTrue D.tells → OnOk result (IsEnsured self.new (D.view disk.new)) }
-        ensures appended { IsTrue D.tells → OnOk result (gates ((D.view disk.new).seen self.old.file) ≡ pushed frame.old.body (gates ((D.view disk.old).seen self.old.file))) }
+        ensures appended { IsTrue D.tells → OnOk result (gates ((D.view disk.new).seen self.old.file) ≡ body_pushed frame.old.body (gates ((D.view disk.old).seen self.old.file))) }
         ensures frame { frame.new.body ≡ frame.old.body }
         ensures spare { frame.new.spare ≡ frame.old.spare }
         ensures cause { CountsFault result (D.faults disk.old) (D.faults disk.new) }
@@ -74,12 +74,12 @@ impl Gated {
     /// rose; the file is then to be read again before it is used. What a crash may leave within the call is the file with
     /// one byte written, and for a file of at most one byte with nothing pending that is the empty list at each moment.
     pub fn ensure<D: Disk>(&mut self, disk: &mut D) -> Result<(), DiskFailed>
-        requires read { IsTrue D.tells → IsRead self.old (D.view disk.old) }
+        requires read { IsTrue D.tells → StandsForFile self.old (D.view disk.old) }
         requires settled { IsTrue D.tells → 1 < self.old.len → IsSettled (D.view disk.old) self.old.file }
         ensures file { self.new.file ≡ self.old.file }
         ensures any_moment { IsTrue D.tells → WritesByte self.old.file self.old.gate (D.view disk.old) (D.view disk.new) }
         ensures kept { IsTrue D.tells → IsSettled (D.view disk.old) self.old.file → self.old.len ≤ 1
-            → Touches self.old.file (λ c. (gates c ≡ gates ((D.view disk.old).seen self.old.file)) × IsClosed c) (D.view disk.old) (D.view disk.new) }
+            → TouchesFile self.old.file (λ c. (gates c ≡ gates ((D.view disk.old).seen self.old.file)) × IsClosed c) (D.view disk.old) (D.view disk.new) }
         ensures byte { IsTrue D.tells → self.old.len ≤ 1 → OnOk result ((D.view disk.new).seen self.old.file ≡ 0 ∷ []) }
         ensures alone { 1 < self.old.len → self.old.gate ≢ self.old.len → disk.new ≡ disk.old }
         ensures ensured { IsTrue D.tells → OnOk result (IsEnsured self.new (D.view disk.new)) }

@@ -1,6 +1,6 @@
 //! The bodies of a file's bytes.
 ghost use Rattle.std.specs.Prelude.{◌≡◌, ◌≢◌, ◌+◌, ◌≤◌, ◌++◌, [], ◌∷◌, true, length, drop, IfOk, IfErr, OnOk};
-ghost use Rattle.gor_gate.specs.Gates.{number_of, gates};
+ghost use Rattle.gor_gate.specs.Gates.{number_of_bytes, gates};
 ghost use Rattle.gor_gate.specs.Bodies.{listed, IsCutAt};
 
 use crate::bodies::{Body, GateFault};
@@ -9,14 +9,14 @@ use std::alloc::Global;
 
 fn number_at(bytes: &[u8], at: usize) -> u64
     requires { at + 8 ≤ length bytes.now }
-    ensures { result ≡ number_of (drop at bytes.now) }
+    ensures { result ≡ number_of_bytes (drop at bytes.now) }
 {
     first_number(&bytes[at..])
 }
 
 fn first_number(bytes: &[u8]) -> u64
     requires { 8 ≤ length bytes.now }
-    ensures { result ≡ number_of bytes.now }
+    ensures { result ≡ number_of_bytes bytes.now }
 {
     BigEndian::read_u64(bytes)
 }

@@ -2,7 +2,7 @@
 ghost use Rattle.std.specs.Prelude.{◌≡◌, ◌≢◌, ◌^◌, ◌<◌, ℕ, length, IsTrue, IfOk, IfErr};
 ghost use Rattle.gor_disk.specs.Disk.{Looks};
 ghost use Rattle.gor_gate.specs.Gates.{gates};
-ghost use Rattle.gor_gate.specs.Places.{IsRead};
+ghost use Rattle.gor_gate.specs.Places.{StandsForFile};
 ghost use Rattle.gor_gate.specs.Bodies.{listed, AreInside, IsCutAt, CountsReadFault};
 
 use crate::bodies::{Body, GateFault};
@@ -40,7 +40,7 @@ pub fn read_all<D: Disk>(
     file: FileId,
 ) -> Result<(Gated, Vec<Body>), GateFault>
     ensures file { IfOk result (λ r. r.0.file ≡ file) }
-    ensures read { IsTrue D.tells → IfOk result (λ r. IsRead r.0 (D.view disk.new)) }
+    ensures read { IsTrue D.tells → IfOk result (λ r. StandsForFile r.0 (D.view disk.new)) }
     ensures bodies { IsTrue D.tells → IfOk result (λ r. listed r.1.items ≡ (gates ((D.view disk.old).seen file)).bodies) }
     // On every disk a body ends within a file's greatest length.
     ensures inside { IfOk result (λ r. AreInside (2 ^ 63) (listed r.1.items)) }

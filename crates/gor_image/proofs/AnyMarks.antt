@@ -12,17 +12,17 @@ use Rattle.gor_model.specs.PlainMap.{greatest, next_change}
 use Rattle.gor_model.proofs.Lists.{all_unmapped}
 use Rattle.gor_keys.specs.declared.record.KeyRecord.{KeyRecord}
 use Rattle.gor_marks.specs.declared.mark.Mark.{Mark}
-use Rattle.gor_image.specs.Records.{Placed, Batch, BlockRow, Files}
-use Rattle.gor_image.specs.Recovery.{number_in}
+use Rattle.gor_image.specs.Records.{Placed, BatchInLog, BlockRow, Files}
+use Rattle.gor_image.specs.Recovery.{change_number_in}
 use Rattle.gor_image.specs.Holding.{Stand, RiseAbove}
-use Rattle.gor_image.specs.ChangeRecords.{AreOf}
-use Rattle.gor_image.specs.Appends.{keys_from, files_as, ImageStands, ImageHolds, IsKeyBodyOf, IsLogBodyOf, OthersStay}
+use Rattle.gor_image.specs.ChangeRecords.{AreRecordsOf}
+use Rattle.gor_image.specs.Appends.{keys_from, files_as, ImageStands, ImageHolds, IsKeyBodyOf, IsLogBodyOf, OtherListsStay}
 use Rattle.gor_disk.specs.declared.disk.FileId.TheVariants.{Marks, Keys, Log, Block}
 use Rattle.gor_disk.specs.Disk.{Contents}
 use Rattle.gor_gate.specs.Gates.{gates}
 use Rattle.gor_image.specs.declared.fault.DamageKind.TheVariants.{Order}
 use Rattle.gor_image.specs.declared.fault.ImageFault.{ImageFault}
-use Rattle.gor_image.specs.Grammars.{Reads, and_then, wrong, keys_at, rows_at}
+use Rattle.gor_image.specs.Grammars.{Reads, and_then, damage_at, keys_at, rows_at}
 use Rattle.gor_image.specs.Images.{in_file, read_walk, read_gated, KeysRead, keys_after, read_keys, read_batch, last_number, read_logs, read_blocks, read_files, read_mark, current, base_of, live_windows, remaining_logs, first_log_of}
 use Rattle.std.proofs.lemmas.Bool.Decides.{eqb_tells}
 use Rattle.gor_image.proofs.Stale.{keys_law}
@@ -37,7 +37,7 @@ pub reads_as : (image : Contents) (marks : List Mark) (start : Start) (C : List 
 reads_as image marks start C s =
     ap (λ (r : Result KeysRead ImageFault). and_then r (λ keys. and_then (read_blocks image (live_windows marks)) (λ blocks. and_then (read_logs image (remaining_logs marks) []) (λ batches. Ok (files_as marks keys blocks batches))))) s.keys_read
     ∙ ap (λ (r : Result (List BlockRow) ImageFault). and_then r (λ blocks. and_then (read_logs image (remaining_logs marks) []) (λ batches. Ok (files_as marks s.keys blocks batches)))) s.blocks_read
-    ∙ ap (λ (r : Result (List Batch) ImageFault). and_then r (λ batches. Ok (files_as marks s.keys s.blocks batches))) s.logs_read
+    ∙ ap (λ (r : Result (List BatchInLog) ImageFault). and_then r (λ batches. Ok (files_as marks s.keys s.blocks batches))) s.logs_read
 
 pub blocks_same : (image after : Contents) → ((w : ℕ) → after (Block w) ≡ image (Block w)) → (ws : List ℕ) → read_blocks after ws ≡ read_blocks image ws
 blocks_same image after same [] = refl
@@ -55,25 +55,25 @@ pub range_other : (a n k : ℕ) → a + n ≤ k → AllByRecursion (λ l. l ≢ 
 range_other a zero k le = tt
 range_other a (suc n) k le = ((λ e. omega arith), range_other (a + 1) n k (omega arith))
 
-logs_push : (image after : Contents) (k : ℕ) (batch : Batch) → ((l : ℕ) → l ≢ k → gates (after (Log l)) ≡ gates (image (Log l)))
-    → ((s t : List Batch) → read_gated image (read_batch k) (Log k) s ≡ Ok t → last_number t < batch.first → read_gated after (read_batch k) (Log k) s ≡ Ok (t ++ batch ∷ []))
-    → (init : List ℕ) → AllByRecursion (λ l. l ≢ k) init → (s t : List Batch) → read_logs image (init ++ k ∷ []) s ≡ Ok t → last_number t < batch.first → read_logs after (init ++ k ∷ []) s ≡ Ok (t ++ batch ∷ [])
+logs_push : (image after : Contents) (k : ℕ) (batch : BatchInLog) → ((l : ℕ) → l ≢ k → gates (after (Log l)) ≡ gates (image (Log l)))
+    → ((s t : List BatchInLog) → read_gated image (read_batch k) (Log k) s ≡ Ok t → last_number t < batch.first → read_gated after (read_batch k) (Log k) s ≡ Ok (t ++ batch ∷ []))
+    → (init : List ℕ) → AllByRecursion (λ l. l ≢ k) init → (s t : List BatchInLog) → read_logs image (init ++ k ∷ []) s ≡ Ok t → last_number t < batch.first → read_logs after (init ++ k ∷ []) s ≡ Ok (t ++ batch ∷ [])
 logs_push image after k batch others own [] apart s t is late = by (read_gated image (read_batch k) (Log k) s) refl is where
-  by : (o : Result (List Batch) ImageFault) → read_gated image (read_batch k) (Log k) s ≡ o → and_then o (λ more. Ok more) ≡ Ok t → read_logs after (k ∷ []) s ≡ Ok (t ++ batch ∷ [])
+  by : (o : Result (List BatchInLog) ImageFault) → read_gated image (read_batch k) (Log k) s ≡ o → and_then o (λ more. Ok more) ≡ Ok t → read_logs after (k ∷ []) s ≡ Ok (t ++ batch ∷ [])
   by (Err f) e is' = absurd (let both : Err f ≡ Ok t = is' in cc)
-  by (Ok u) e is' = let it : u ≡ t = cc in ap (λ (r : Result (List Batch) ImageFault). and_then r (λ more. Ok more)) (own s t (e ∙ ap Ok it) late)
+  by (Ok u) e is' = let it : u ≡ t = cc in ap (λ (r : Result (List BatchInLog) ImageFault). and_then r (λ more. Ok more)) (own s t (e ∙ ap Ok it) late)
 logs_push image after k batch others own (l ∷ init) apart s t is late =
     by (read_gated image (read_batch l) (Log l) s) refl is (λ u. logs_push image after k batch others own init apart.1 u t) where
-      by : (o : Result (List Batch) ImageFault) → read_gated image (read_batch l) (Log l) s ≡ o → and_then o (λ more. read_logs image (init ++ k ∷ []) more) ≡ Ok t
-          → ((u : List Batch) → read_logs image (init ++ k ∷ []) u ≡ Ok t → last_number t < batch.first → read_logs after (init ++ k ∷ []) u ≡ Ok (t ++ batch ∷ []))
+      by : (o : Result (List BatchInLog) ImageFault) → read_gated image (read_batch l) (Log l) s ≡ o → and_then o (λ more. read_logs image (init ++ k ∷ []) more) ≡ Ok t
+          → ((u : List BatchInLog) → read_logs image (init ++ k ∷ []) u ≡ Ok t → last_number t < batch.first → read_logs after (init ++ k ∷ []) u ≡ Ok (t ++ batch ∷ []))
           → and_then (read_gated after (read_batch l) (Log l) s) (λ more. read_logs after (init ++ k ∷ []) more) ≡ Ok (t ++ batch ∷ [])
       by (Err f) e is' further = absurd (let both : Err f ≡ Ok t = is' in cc)
       by (Ok u) e is' further =
-          ap (λ (r : Result (List Batch) ImageFault). and_then r (λ more. read_logs after (init ++ k ∷ []) more)) (gated_same image after (read_batch l) (Log l) s (others l apart.0) ∙ e)
+          ap (λ (r : Result (List BatchInLog) ImageFault). and_then r (λ more. read_logs after (init ++ k ∷ []) more)) (gated_same image after (read_batch l) (Log l) s (others l apart.0) ∙ e)
           ∙ further u is' late
 
-module _ (image after : Contents) (marks : List Mark) (start : Start) (C E : List Change) (keys : List (Placed KeyRecord)) (batch : Batch)
-    (stands : ImageStands image marks start C) (are : AreOf start C E keys batch) (stay : OthersStay image after (current marks)) where
+module _ (image after : Contents) (marks : List Mark) (start : Start) (C E : List Change) (keys : List (Placed KeyRecord)) (batch : BatchInLog)
+    (stands : ImageStands image marks start C) (are : AreRecordsOf start C E keys batch) (stay : OtherListsStay image after (current marks)) where
   files : Files
   files = files_as marks stands.keys stands.blocks stands.batches
 
@@ -81,7 +81,7 @@ module _ (image after : Contents) (marks : List Mark) (start : Start) (C E : Lis
   first_low =
       let bound = walk_bound (nat_lt 0 (current marks)) (base_of marks).upto (keys_from (base_of marks).upto) stands.keys (gates (image (Keys (current marks)))) (omega arith)
       (in_file_ok (Keys (current marks)) (read_walk (read_keys (nat_lt 0 (current marks))) (keys_from (base_of marks).upto) (gates (image (Keys (current marks))))) stands.keys stands.keys_read) in
-      let low = below (base_of marks).upto (filter_map (λ (r : Placed KeyRecord). number_in r.it) stands.keys.records)
+      let low = below (base_of marks).upto (filter_map (λ (r : Placed KeyRecord). change_number_in r.it) stands.keys.records)
       (upto_below (files_as marks stands.keys stands.blocks stands.batches) start C stands.stand) (numbers_below (files_as marks stands.keys stands.blocks stands.batches) start C stands.stand) in
       omega arith where
         below : (a : ℕ) (xs : List ℕ) → a < next_change start C → AllByRecursion (λ x. x < next_change start C) xs → greatest a xs < next_change start C
@@ -92,8 +92,8 @@ module _ (image after : Contents) (marks : List Mark) (start : Start) (C E : Lis
   numbered = all_unmapped (HasNumber (next_change start C) (next_change start (E ++ C))) (λ (r : Placed KeyRecord). r.it) keys
       (subst (λ l. AllByRecursion (HasNumber (next_change start C) (next_change start (E ++ C))) l) (sym are.key_list) (numbers_within start C E))
 
-  rising : RiseAbove stands.keys.number (filter_map (λ r. number_in r.it) keys)
-  rising = subst (RiseAbove stands.keys.number) (sym (numbers_map keys ∙ ap (filter_map number_in) are.key_list))
+  rising : RiseAbove stands.keys.number (filter_map (λ r. change_number_in r.it) keys)
+  rising = subst (RiseAbove stands.keys.number) (sym (numbers_map keys ∙ ap (filter_map change_number_in) are.key_list))
       (numbers_go stands.keys.number start C [] (record { rise = tt; below = tt; above = first_low }) E).rise
 
   record KeysOn : Type 0 where
@@ -143,10 +143,10 @@ module _ (image after : Contents) (marks : List Mark) (start : Start) (C E : Lis
       ∙ logs_push image after (current marks) batch stay.logs own (range_with_len (first_log_of marks) (current marks - first_log_of marks))
       (range_other (first_log_of marks) (current marks - first_log_of marks) (current marks) (let w = stands.log_within in omega arith))
       [] stands.batches (ap (λ ls. read_logs image ls []) (sym logs_are) ∙ stands.logs_read) late where
-        own : (s t : List Batch) → read_gated image (read_batch (current marks)) (Log (current marks)) s ≡ Ok t → last_number t < batch.first → read_gated after (read_batch (current marks)) (Log (current marks)) s ≡ Ok (t ++ batch ∷ [])
+        own : (s t : List BatchInLog) → read_gated image (read_batch (current marks)) (Log (current marks)) s ≡ Ok t → last_number t < batch.first → read_gated after (read_batch (current marks)) (Log (current marks)) s ≡ Ok (t ++ batch ∷ [])
         own s t is later = let test : nat_lt (last_number t) batch.first ≡ true = grind arith in
             gated_more image after (read_batch (current marks)) (Log (current marks)) s t (t ++ batch ∷ []) more.body more.pushes is
-            (ap (λ (r : Reads Batch). and_then r (λ b. if nat_lt (last_number t) b.first then Ok (t ++ b ∷ []) else wrong ((gates (image (Log (current marks)))).end + 9 + 1) Order)) more.spells ∙ rw test refl)
+            (ap (λ (r : Reads BatchInLog). and_then r (λ b. if nat_lt (last_number t) b.first then Ok (t ++ b ∷ []) else damage_at ((gates (image (Log (current marks)))).end + 9 + 1) Order)) more.spells ∙ rw test refl)
 
   -- both bodies stand, and the image holds the state after the further changes
   pub any_marks_law : IsStart start → (H : History) → Legal start H → changes H ≡ E ++ C → IsKeyBodyOf image after (current marks) keys → IsLogBodyOf image after (current marks) batch → ImageStands after marks start (E ++ C)
@@ -169,17 +169,17 @@ module _ (image after : Contents) (marks : List Mark) (start : Start) (C E : Lis
   -- between the two appends: the key list has its body and the logs are as they were
   pub any_marks_keys : IsKeyBodyOf image after (current marks) keys → gates (after (Log (current marks))) ≡ gates (image (Log (current marks))) → ImageHolds after marks start C
   any_marks_keys key_body same_log = on (keys_push key_body) where
-    logs_same : (ls : List ℕ) (s : List Batch) → read_logs after ls s ≡ read_logs image ls s
+    logs_same : (ls : List ℕ) (s : List BatchInLog) → read_logs after ls s ≡ read_logs image ls s
     logs_same [] s = refl
     logs_same (l ∷ ls) s = here (eqb_tells l (current marks)) (λ u. logs_same ls u) where
-      here : ((nat_eq l (current marks) ≡ true) × (l ≡ current marks)) ⊎ ((nat_eq l (current marks) ≡ false) × (l ≢ current marks)) → ((u : List Batch) → read_logs after ls u ≡ read_logs image ls u)
+      here : ((nat_eq l (current marks) ≡ true) × (l ≡ current marks)) ⊎ ((nat_eq l (current marks) ≡ false) × (l ≢ current marks)) → ((u : List BatchInLog) → read_logs after ls u ≡ read_logs image ls u)
           → and_then (read_gated after (read_batch l) (Log l) s) (λ more. read_logs after ls more) ≡ and_then (read_gated image (read_batch l) (Log l) s) (λ more. read_logs image ls more)
-      here own further = ap (λ (r : Result (List Batch) ImageFault). and_then r (λ more. read_logs after ls more)) (gated_same image after (read_batch l) (Log l) s (lists own)) ∙ on_result (read_gated image (read_batch l) (Log l) s) where
+      here own further = ap (λ (r : Result (List BatchInLog) ImageFault). and_then r (λ more. read_logs after ls more)) (gated_same image after (read_batch l) (Log l) s (lists own)) ∙ on_result (read_gated image (read_batch l) (Log l) s) where
         lists : ((nat_eq l (current marks) ≡ true) × (l ≡ current marks)) ⊎ ((nat_eq l (current marks) ≡ false) × (l ≢ current marks)) → gates (after (Log l)) ≡ gates (image (Log l))
         lists (inl same) = subst (λ k. gates (after (Log k)) ≡ gates (image (Log k))) (sym same.1) same_log
         lists (inr other) = stay.logs l other.1
 
-        on_result : (r : Result (List Batch) ImageFault) → and_then r (λ more. read_logs after ls more) ≡ and_then r (λ more. read_logs image ls more)
+        on_result : (r : Result (List BatchInLog) ImageFault) → and_then r (λ more. read_logs after ls more) ≡ and_then r (λ more. read_logs image ls more)
         on_result (Ok u) = further u
         on_result (Err f) = refl
 
@@ -189,7 +189,7 @@ module _ (image after : Contents) (marks : List Mark) (start : Start) (C E : Lis
       files = record { base = base_of marks; keys = stands.keys.records ++ keys; blocks = stands.blocks; batches = stands.batches };
       files_are = ap (λ (r : Result KeysRead ImageFault). and_then r (λ keys. and_then (read_blocks after (live_windows marks)) (λ blocks. and_then (read_logs after (remaining_logs marks) []) (λ batches. Ok (files_as marks keys blocks batches))))) k.read
           ∙ ap (λ (r : Result (List BlockRow) ImageFault). and_then r (λ blocks. and_then (read_logs after (remaining_logs marks) []) (λ batches. Ok (files_as marks k.state blocks batches)))) (blocks_same image after stay.blocks (live_windows marks) ∙ stands.blocks_read)
-          ∙ ap (λ (r : Result (List Batch) ImageFault). and_then r (λ batches. Ok (files_as marks k.state stands.blocks batches))) (logs_same (remaining_logs marks) [] ∙ stands.logs_read)
+          ∙ ap (λ (r : Result (List BatchInLog) ImageFault). and_then r (λ batches. Ok (files_as marks k.state stands.blocks batches))) (logs_same (remaining_logs marks) [] ∙ stands.logs_read)
           ∙ ap (λ l. Ok (record { base = base_of marks; keys = l; blocks = stands.blocks; batches = stands.batches })) k.records;
       hold = keys_law (files_as marks stands.keys stands.blocks stands.batches) start C E keys stands.stand are.key_list;
     }

@@ -9,11 +9,11 @@ use Rattle.gor_model.specs.Lists.{EachBefore}
 use Rattle.gor_model.specs.declared.point.Point.{Point}
 use Rattle.gor_model.specs.declared.unit.Unit.TheVariants.{Second}
 use Rattle.gor_model.specs.Windows.{window, window_in, window_length, last_window}
-use Rattle.gor_model.specs.Fields.{IsBytes, number_in as field_in}
+use Rattle.gor_model.specs.Fields.{IsBytes, field_in}
 use Rattle.gor_model.specs.Codes.{block_bits}
 use Rattle.gor_model.proofs.Lists.{all_weaker}
 use Rattle.gor_bits.specs.Spelled.{bits_of}
-use Rattle.gor_block.specs.Marks.{IsChain, mark_of}
+use Rattle.gor_block.specs.Marks.{IsChain, point_mark_of}
 use Rattle.gor_block.specs.Decoded.{decoded, starts_with}
 use Rattle.gor_block.specs.PointBlock.{IsBlock, IsBytesOf}
 use Rattle.gor_block.proofs.BytesLaws.{raw_bytes}
@@ -124,7 +124,7 @@ module _ (w : ℕ) (bytes : List ℕ) (fits : IsBytes bytes) (limit : w ≤ last
                   let begins = starts_begins (block_bits Second w (decoded Second w (field_in w32 4 bytes) (bits_of (drop 8 bytes)))) (bits_of (drop 8 bytes)) p.0 in (
                     chain_block Second w (decoded Second w (field_in w32 4 bytes) (bits_of (drop 8 bytes))) 0 limit chain,
                     raw_bytes Second bytes w (field_in w32 4 bytes) (bits_of (drop 8 bytes)) (length (block_bits Second w (decoded Second w (field_in w32 4 bytes) (bits_of (drop 8 bytes)))))
-                        (mark_of Second w (decoded Second w (field_in w32 4 bytes) (bits_of (drop 8 bytes)))) 0 fits
+                        (point_mark_of Second w (decoded Second w (field_in w32 4 bytes) (bits_of (drop 8 bytes)))) 0 fits
                         (record { headed = record { long = long; window = omega arith; some = some; few = few }; window = sym own; count_is = refl; bits_is = refl })
                         (record { whole = record { begins = begins; chain = chain }; place = refl; marked = refl })
                         (record {

@@ -11,8 +11,8 @@ use Rattle.gor_model.specs.declared.point.Point.{Point}
 use Rattle.gor_model.specs.declared.unit.Unit.{Unit as TimeUnit}
 use Rattle.gor_model.specs.declared.unit.Unit.TheVariants.{Second}
 use Rattle.gor_model.specs.Windows.{window, window_in, window_length}
-use Rattle.gor_model.specs.Fields.{number_in as field_in}
-use Rattle.gor_model.specs.Codes.{block_bits, Begins}
+use Rattle.gor_model.specs.Fields.{field_in}
+use Rattle.gor_model.specs.Codes.{block_bits, CodeBegins}
 use Rattle.gor_model.proofs.Lists.{all_places}
 use Rattle.gor_bits.specs.Spelled.{bits_of}
 use Rattle.gor_bits.proofs.ByteBits.{length-bits_of}
@@ -49,7 +49,7 @@ zeros (suc n) = zeros n
 
 packed : (code bits : List Bool) → bits ≡ code ++ replicate (length bits - length code) false → length bits < length code + 8 → is_packed code bits ≡ true
 packed code bits whole least =
-    let a = begins_starts code bits (subst (λ (xs : List Bool). Begins code xs) (sym whole) (begins_self code (replicate (length bits - length code) false))) in
+    let a = begins_starts code bits (subst (λ (xs : List Bool). CodeBegins code xs) (sym whole) (begins_self code (replicate (length bits - length code) false))) in
     let b : nat_lt (length bits) (length code + 8) ≡ true = grind arith in
     let c : drop (length code) bits ≡ replicate (length bits - length code) false = ap (drop (length code)) whole ∙ drop-append_seam code (replicate (length bits - length code) false) in
     let d : list_all not (drop (length code) bits) ≡ true = ap (list_all not) c ∙ zeros (length bits - length code) in

@@ -20,7 +20,7 @@ use Rattle.gor_keys.specs.declared.record.KeyRecord.TheVariants.{Delete}
 use Rattle.gor_log.specs.declared.record.LogRecord.{LogRecord}
 use Rattle.gor_log.specs.declared.record.LogRecord.TheVariants.{Put, Floor, Seal}
 use Rattle.gor_image.specs.Records.{BlockRow, Base}
-use Rattle.gor_image.specs.Recovery.{is_above, base_end, points_of, filled, floor_end, Names, with_name, without_name, named, freed, read_name}
+use Rattle.gor_image.specs.Recovery.{is_above, base_end, points_of_series, filled, floor_end, Names, with_name, without_name, name_added, freed, read_name}
 use Rattle.gor_image.specs.Holding.{IsUidBelow}
 use Rattle.gor_image.specs.ChangeRecords.{begun_record, uid_of_put, key_record, log_record}
 use Rattle.gor_image.proofs.Filled.{filled_other, filled_put, filled_seal, points_put, points_other, greatest_append, none_more, some_more}
@@ -28,8 +28,8 @@ use Rattle.gor_image.proofs.Lists.{later_than_all, above_base, other_put, other_
 use Rattle.gor_image.proofs.Core.{Rises, Same, NamesFit, Core, same_log, same_absent, same_there, same_slot}
 use Rattle.gor_image.proofs.Steps.{fit_log, fit_begun, fit_gone}
 
-abbrev pub Told : List ℕ → List ℕ → Type 0
-Told q k = ((bytes_eq q k ≡ true) × (q ≡ k)) ⊎ ((bytes_eq q k ≡ false) × (q ≢ k))
+abbrev pub KeysDecided : List ℕ → List ℕ → Type 0
+KeysDecided q k = ((bytes_eq q k ≡ true) × (q ≡ k)) ⊎ ((bytes_eq q k ≡ false) × (q ≢ k))
 
 -- what a change asks besides a place for its series
 abbrev pub IsTimely : ℕ → ℕ → Option Row → Type 0
@@ -105,7 +105,7 @@ module _ (base : Base) (blocks : List BlockRow) (start : Start) (C : List Change
       above : is_above base.window (window t) ≡ true
       above = above_base base.window t (let h = timely.0 in let l = low in omega arith)
 
-      rows : (q : List ℕ) → Told q k → Same base blocks (log ++ Put row.uid t w ∷ []) (names.row q) (row_after start (change.Put name k t w ∷ C) q)
+      rows : (q : List ℕ) → KeysDecided q k → Same base blocks (log ++ Put row.uid t w ∷ []) (names.row q) (row_after start (change.Put name k t w ∷ C) q)
       rows q (inl same) =
           let here : names.row q ≡ Some found.0 = ap names.row same.1 ∙ found.1 in
           let was : row_after start C q ≡ Some row = ap (row_after start C) same.1 ∙ there in
@@ -120,23 +120,23 @@ module _ (base : Base) (blocks : List BlockRow) (start : Start) (C : List Change
           (same_log base blocks log (log ++ Put row.uid t w ∷ []) (names.row q) (row_after start C q)
           (λ r is. filled_other base blocks log r (Put row.uid t w) (other_put base r.uid row.uid t w (apart_uid q r apart.1 is)) refl) (core.rows q))
 
-      own_rising : Rises (points_of base blocks (log ++ Put found.0.uid t w ∷ []) found.0.uid)
+      own_rising : Rises (points_of_series base blocks (log ++ Put found.0.uid t w ∷ []) found.0.uid)
       own_rising = subst Rises (sym (points_put base blocks log found.0 t w above))
-          (rising_push (λ (p q : Point). p.time < q.time) (points_of base blocks log found.0.uid) (record { time = t; word = w }) (core.fit.rising k found.0 found.1)
-          (later_than_all t row.floor (points_of base blocks log found.0.uid) timely.0 (core.fit.rising k found.0 found.1)
+          (rising_push (λ (p q : Point). p.time < q.time) (points_of_series base blocks log found.0.uid) (record { time = t; word = w }) (core.fit.rising k found.0 found.1)
+          (later_than_all t row.floor (points_of_series base blocks log found.0.uid) timely.0 (core.fit.rising k found.0 found.1)
           (λ p is. timely.1 p (ap last_of (sym kept_same) ∙ is)))) where
-            kept_same : kept row.floor (points_of base blocks log found.0.uid) ≡ kept row.floor row.points
-            kept_same = ap (λ f. kept f (points_of base blocks log found.0.uid)) (sym (ap (λ (r : Row). r.floor) found.2)) ∙ ap (λ (r : Row). r.points) found.2
+            kept_same : kept row.floor (points_of_series base blocks log found.0.uid) ≡ kept row.floor row.points
+            kept_same = ap (λ f. kept f (points_of_series base blocks log found.0.uid)) (sym (ap (λ (r : Row). r.floor) found.2)) ∙ ap (λ (r : Row). r.points) found.2
 
-      rising : (q : List ℕ) (r : Row) → names.row q ≡ Some r → Told q k → Rises (points_of base blocks (log ++ Put row.uid t w ∷ []) r.uid)
+      rising : (q : List ℕ) (r : Row) → names.row q ≡ Some r → KeysDecided q k → Rises (points_of_series base blocks (log ++ Put row.uid t w ∷ []) r.uid)
       rising q r is (inl same) =
           let both : Some found.0 ≡ Some r = sym (ap names.row same.1 ∙ found.1) ∙ is in let it : found.0 ≡ r = cc in
-          subst (λ (o : Row). Rises (points_of base blocks (log ++ Put row.uid t w ∷ []) o.uid)) it
-          (subst (λ u. Rises (points_of base blocks (log ++ Put u t w ∷ []) found.0.uid)) uid own_rising)
+          subst (λ (o : Row). Rises (points_of_series base blocks (log ++ Put row.uid t w ∷ []) o.uid)) it
+          (subst (λ u. Rises (points_of_series base blocks (log ++ Put u t w ∷ []) found.0.uid)) uid own_rising)
       rising q r is (inr apart) =
           subst Rises (sym (points_other base blocks log r (Put row.uid t w) (other_put base r.uid row.uid t w (apart_uid q r apart.1 is)))) (core.fit.rising q r is)
 
-      floors : (q : List ℕ) → Told q k → MatchOption (row_after start (change.Put name k t w ∷ C) q) ⊤ (λ row. (base_end base.window ≤ row.floor) × (row.floor ≤ shard_floor start (change.Put name k t w ∷ C)))
+      floors : (q : List ℕ) → KeysDecided q k → MatchOption (row_after start (change.Put name k t w ∷ C) q) ⊤ (λ row. (base_end base.window ≤ row.floor) × (row.floor ≤ shard_floor start (change.Put name k t w ∷ C)))
       floors q (inl same) =
           let was : row_after start C q ≡ Some row = ap (row_after start C) same.1 ∙ there in
           let plain : row_after start (change.Put name k t w ∷ C) q ≡ Some (with_point (record { time = t; word = w }) row) = law (change.Put name k t w) q ∙ rw (same.0, was) refl in
@@ -154,7 +154,7 @@ module _ (base : Base) (blocks : List BlockRow) (start : Start) (C : List Change
           (λ q r is. subst Rises (sym (points_other base blocks log r (Seal row.uid w) refl)) (core.fit.rising q r is));
       floors = λ q. floors q (bytes_tell q k);
     } where
-      rows : (q : List ℕ) → Told q k → Same base blocks (log ++ Seal row.uid w ∷ []) (names.row q) (row_after start (change.Seal k w ∷ C) q)
+      rows : (q : List ℕ) → KeysDecided q k → Same base blocks (log ++ Seal row.uid w ∷ []) (names.row q) (row_after start (change.Seal k w ∷ C) q)
       rows q (inl same) =
           let here : names.row q ≡ Some found.0 = ap names.row same.1 ∙ found.1 in
           let was : row_after start C q ≡ Some row = ap (row_after start C) same.1 ∙ there in
@@ -169,7 +169,7 @@ module _ (base : Base) (blocks : List BlockRow) (start : Start) (C : List Change
           (same_log base blocks log (log ++ Seal row.uid w ∷ []) (names.row q) (row_after start C q)
           (λ r is. filled_other base blocks log r (Seal row.uid w) refl (other_seal r.uid row.uid w (apart_uid q r apart.1 is))) (core.rows q))
 
-      floors : (q : List ℕ) → Told q k → MatchOption (row_after start (change.Seal k w ∷ C) q) ⊤ (λ row. (base_end base.window ≤ row.floor) × (row.floor ≤ shard_floor start (change.Seal k w ∷ C)))
+      floors : (q : List ℕ) → KeysDecided q k → MatchOption (row_after start (change.Seal k w ∷ C) q) ⊤ (λ row. (base_end base.window ≤ row.floor) × (row.floor ≤ shard_floor start (change.Seal k w ∷ C)))
       floors q (inl same) =
           let was : row_after start C q ≡ Some row = ap (row_after start C) same.1 ∙ there in
           let plain : row_after start (change.Seal k w ∷ C) q ≡ Some (raised_to (window_end w) row) = law (change.Seal k w) q ∙ rw (same.0, was) refl in
@@ -191,7 +191,7 @@ module _ (base : Base) (blocks : List BlockRow) (start : Start) (C : List Change
       slot : found.0.slot ≡ row.slot
       slot = ap (λ (r : Row). r.slot) found.2
 
-      rows : (q : List ℕ) → Told q k → Same base blocks log (if bytes_eq q k then None else names.row q) (row_after start (change.Del k ∷ C) q)
+      rows : (q : List ℕ) → KeysDecided q k → Same base blocks log (if bytes_eq q k then None else names.row q) (row_after start (change.Del k ∷ C) q)
       rows q (inl same) =
           let plain : row_after start (change.Del k ∷ C) q ≡ None = law (change.Del k) q ∙ rw same.0 refl in
           subst (λ o. Same base blocks log (if bytes_eq q k then None else names.row q) o) (sym plain) (rw same.0 tt)
@@ -199,7 +199,7 @@ module _ (base : Base) (blocks : List BlockRow) (start : Start) (C : List Change
           let plain : row_after start (change.Del k ∷ C) q ≡ row_after start C q = law (change.Del k) q ∙ rw apart.0 refl in
           subst (λ o. Same base blocks log (if bytes_eq q k then None else names.row q) o) (sym plain) (rw apart.0 (core.rows q))
 
-      floors : (q : List ℕ) → Told q k → MatchOption (row_after start (change.Del k ∷ C) q) ⊤ (λ row. (base_end base.window ≤ row.floor) × (row.floor ≤ shard_floor start (change.Del k ∷ C)))
+      floors : (q : List ℕ) → KeysDecided q k → MatchOption (row_after start (change.Del k ∷ C) q) ⊤ (λ row. (base_end base.window ≤ row.floor) × (row.floor ≤ shard_floor start (change.Del k ∷ C)))
       floors q (inl same) =
           let plain : row_after start (change.Del k ∷ C) q ≡ None = law (change.Del k) q ∙ rw same.0 refl in
           subst (λ o. MatchOption o ⊤ (λ row. (base_end base.window ≤ row.floor) × (row.floor ≤ shard_floor start C))) (sym plain) tt
@@ -246,7 +246,7 @@ module _ (base : Base) (blocks : List BlockRow) (start : Start) (C : List Change
       plain_other : (q : List ℕ) → bytes_eq q k ≡ false → row_after start (change.Put name k t w ∷ C) q ≡ row_after start C q
       plain_other q apart = law (change.Put name k t w) q ∙ rw apart refl
 
-      rows : (q : List ℕ) → Told q k → Same base blocks (log ++ Put (next_change start C) t w ∷ [])
+      rows : (q : List ℕ) → KeysDecided q k → Same base blocks (log ++ Put (next_change start C) t w ∷ [])
           (if bytes_eq q k then Some (begun_row start (record { name = name; point = record { time = 0; word = 0 }; before = C })) else names.row q) (row_after start (change.Put name k t w ∷ C) q)
       rows q (inl same) =
           subst (λ o. Same base blocks (log ++ Put (next_change start C) t w ∷ []) (if bytes_eq q k then Some (begun_row start (record { name = name; point = record { time = 0; word = 0 }; before = C })) else names.row q) o) (sym (plain_own q same))
@@ -257,23 +257,23 @@ module _ (base : Base) (blocks : List BlockRow) (start : Start) (C : List Change
           (rw apart.0 (same_log base blocks log (log ++ Put (next_change start C) t w ∷ []) (names.row q) (row_after start C q)
           (λ r is. filled_other base blocks log r (Put (next_change start C) t w) (other_put base r.uid (next_change start C) t w (other_uid q r is)) refl) (core.rows q)))
 
-      own_rising : Rises (points_of base blocks (log ++ Put (next_change start C) t w ∷ []) (next_change start C))
+      own_rising : Rises (points_of_series base blocks (log ++ Put (next_change start C) t w ∷ []) (next_change start C))
       own_rising = subst Rises (sym (points_put base blocks log (begun_row start (record { name = name; point = record { time = 0; word = 0 }; before = C })) t w above))
           (subst (λ (l : List Point). Rises (l ++ record { time = t; word = w } ∷ [])) (sym none) (tt, tt)) where
-            none : points_of base blocks log (next_change start C) ≡ []
+            none : points_of_series base blocks log (next_change start C) ≡ []
             none = rw (no_puts base (next_change start C) log core.fit.log_below, no_blocks (next_change start C) blocks core.fit.block_below) refl
 
-      rising : (q : List ℕ) (r : Row) → (if bytes_eq q k then Some (begun_row start (record { name = name; point = record { time = 0; word = 0 }; before = C })) else names.row q) ≡ Some r → Told q k
-          → Rises (points_of base blocks (log ++ Put (next_change start C) t w ∷ []) r.uid)
+      rising : (q : List ℕ) (r : Row) → (if bytes_eq q k then Some (begun_row start (record { name = name; point = record { time = 0; word = 0 }; before = C })) else names.row q) ≡ Some r → KeysDecided q k
+          → Rises (points_of_series base blocks (log ++ Put (next_change start C) t w ∷ []) r.uid)
       rising q r is (inl same) =
           let both : Some (begun_row start (record { name = name; point = record { time = 0; word = 0 }; before = C })) ≡ Some r = rw same.0 at is in
           let it : begun_row start (record { name = name; point = record { time = 0; word = 0 }; before = C }) ≡ r = cc in
-          subst (λ (o : Row). Rises (points_of base blocks (log ++ Put (next_change start C) t w ∷ []) o.uid)) it own_rising
+          subst (λ (o : Row). Rises (points_of_series base blocks (log ++ Put (next_change start C) t w ∷ []) o.uid)) it own_rising
       rising q r is (inr apart) =
           let was : names.row q ≡ Some r = rw apart.0 at is in
           subst Rises (sym (points_other base blocks log r (Put (next_change start C) t w) (other_put base r.uid (next_change start C) t w (other_uid q r was)))) (core.fit.rising q r was)
 
-      floors : (q : List ℕ) → Told q k → MatchOption (row_after start (change.Put name k t w ∷ C) q) ⊤ (λ row. (base_end base.window ≤ row.floor) × (row.floor ≤ shard_floor start (change.Put name k t w ∷ C)))
+      floors : (q : List ℕ) → KeysDecided q k → MatchOption (row_after start (change.Put name k t w ∷ C) q) ⊤ (λ row. (base_end base.window ≤ row.floor) × (row.floor ≤ shard_floor start (change.Put name k t w ∷ C)))
       floors q (inl same) =
           subst (λ o. MatchOption o ⊤ (λ row. (base_end base.window ≤ row.floor) × (row.floor ≤ shard_floor start C))) (sym (plain_own q same)) (low, omega arith)
       floors q (inr apart) =
@@ -324,7 +324,7 @@ module _ (base : Base) (blocks : List BlockRow) (start : Start) (C : List Change
       gone : names.row (key_of name) ≡ None
       gone = ap names.row (sym allowed.0) ∙ same_absent base blocks log (names.row k) (row_after start C k) (core.rows k) absent
 
-      read : named names (next_change start C) (slice_index (slots_after start C).free 0) (shard_floor start C) name ≡ Ok (with_name names k (begun_row start (record { name = name; point = record { time = 0; word = 0 }; before = C })))
+      read : name_added names (next_change start C) (slice_index (slots_after start C).free 0) (shard_floor start C) name ≡ Ok (with_name names k (begun_row start (record { name = name; point = record { time = 0; word = 0 }; before = C })))
       read = rw (vacant, gone) (ap (λ key. Ok (with_name names key (begun_row start (record { name = name; point = record { time = 0; word = 0 }; before = C })))) (sym allowed.0))
   step (change.Del k) room allowed = cases (row_after start C k) refl where
     cases : (o : Option Row) → row_after start C k ≡ o → Goes base blocks start C names log (change.Del k) (option_map (λ row. Delete (next_change start C) row.slot) o) None

@@ -11,7 +11,7 @@ use Rattle.gor_model.specs.PlainMap.{with_kept, shard_floor, row_after, next_cha
 use Rattle.gor_log.specs.declared.record.LogRecord.{LogRecord}
 use Rattle.gor_log.specs.declared.record.LogRecord.TheVariants.{Put, Floor, Seal}
 use Rattle.gor_image.specs.Records.{BlockRow, Base}
-use Rattle.gor_image.specs.Recovery.{base_end, points_of, filled, floor_of, Names}
+use Rattle.gor_image.specs.Recovery.{base_end, points_of_series, filled, floor_of, Names}
 use Rattle.gor_image.specs.Holding.{IsUidBelow}
 
 abbrev pub Rises : List Point → Type 0
@@ -33,7 +33,7 @@ module _ (base : Base) (blocks : List BlockRow) where
     pub below : (k : List ℕ) (r : Row) → names.row k ≡ Some r → r.uid < n
     pub log_below : AllByRecursion (IsUidBelow n) log
     pub block_below : AllByRecursion (λ b. b.uid < n) blocks
-    pub rising : (k : List ℕ) (r : Row) → names.row k ≡ Some r → Rises (points_of base blocks log r.uid)
+    pub rising : (k : List ℕ) (r : Row) → names.row k ≡ Some r → Rises (points_of_series base blocks log r.uid)
 
   pub record Core (names : Names) (log : List LogRecord) (start : Start) (C : List Change) : Type 0 where
     pub floor : floor_of base log ≡ shard_floor start C

@@ -11,9 +11,9 @@ use Rattle.gor_gate.specs.Gates.{gates}
 use Rattle.gor_log.specs.declared.record.LogRecord.{LogRecord}
 use Rattle.gor_log.specs.declared.record.LogRecord.TheVariants.{Put, Floor, Seal}
 use Rattle.gor_image.specs.declared.fault.DamageKind.TheVariants.{Order}
-use Rattle.gor_image.specs.Records.{Batch}
-use Rattle.gor_image.specs.Recovery.{log_records}
-use Rattle.gor_image.specs.Grammars.{from, log_at, wrong, batch_placed}
+use Rattle.gor_image.specs.Records.{BatchInLog}
+use Rattle.gor_image.specs.Recovery.{records_of_batches}
+use Rattle.gor_image.specs.Grammars.{from, log_at, damage_at, batch_placed}
 use Rattle.gor_log.specs.Reading.{log_in}
 use Rattle.gor_image.specs.Images.{read_gated, read_walk, read_batch, read_logs, last_number, put_window, greatest_of, top_of}
 use Rattle.gor_image.specs.Turns.{HasNoneBehind}
@@ -48,16 +48,16 @@ puts_low w (Floor v ∷ records) low = (tt, puts_low w records low)
 puts_low w (Seal u v ∷ records) low = (tt, puts_low w records low)
 
 -- each batch of the log has only what the filter leaves
-own_low : (w log : ℕ) (batches : List Batch)
+own_low : (w log : ℕ) (batches : List BatchInLog)
     → AllByRecursion (λ n. n ≤ w) (filter_map put_window (flat_map (λ b. map (λ r. r.it) b.records) (filter (λ b. nat_eq b.log log) batches)))
-    → AllByRecursion (λ (b : Batch). b.log ≡ log → AllByRecursion (HasNoneBehind w) (map (λ r. r.it) b.records)) batches
+    → AllByRecursion (λ (b : BatchInLog). b.log ≡ log → AllByRecursion (HasNoneBehind w) (map (λ r. r.it) b.records)) batches
 own_low w log [] low = tt
 own_low w log (b ∷ batches) low = by (nat_eq b.log log) refl low (own_low w log batches) where
   by : (c : Bool) → nat_eq b.log log ≡ c
       → AllByRecursion (λ n. n ≤ w) (filter_map put_window (flat_map (λ x. map (λ r. r.it) x.records) (filter (λ x. nat_eq x.log log) (b ∷ batches))))
       → (AllByRecursion (λ n. n ≤ w) (filter_map put_window (flat_map (λ x. map (λ r. r.it) x.records) (filter (λ x. nat_eq x.log log) batches)))
-      → AllByRecursion (λ (x : Batch). x.log ≡ log → AllByRecursion (HasNoneBehind w) (map (λ r. r.it) x.records)) batches)
-      → AllByRecursion (λ (x : Batch). x.log ≡ log → AllByRecursion (HasNoneBehind w) (map (λ r. r.it) x.records)) (b ∷ batches)
+      → AllByRecursion (λ (x : BatchInLog). x.log ≡ log → AllByRecursion (HasNoneBehind w) (map (λ r. r.it) x.records)) batches)
+      → AllByRecursion (λ (x : BatchInLog). x.log ≡ log → AllByRecursion (HasNoneBehind w) (map (λ r. r.it) x.records)) (b ∷ batches)
   by true e all further =
       let both : AllByRecursion (λ n. n ≤ w) (filter_map put_window (map (λ r. r.it) b.records) ++ filter_map put_window (flat_map (λ x. map (λ r. r.it) x.records) (filter (λ x. nat_eq x.log log) batches))) =
       subst (λ l. AllByRecursion (λ n. n ≤ w) l) (filter_map-append put_window (map (λ r. r.it) b.records) (flat_map (λ x. map (λ r. r.it) x.records) (filter (λ x. nat_eq x.log log) batches))) (rw e at all) in
@@ -66,38 +66,38 @@ own_low w log (b ∷ batches) low = by (nat_eq b.log log) refl low (own_low w lo
 
 -- ---- the logs of batches
 
-batch_of_log : (log at : ℕ) (body : List ℕ) (b : Batch) → log_at log at body ≡ Ok b → b.log ≡ log
+batch_of_log : (log at : ℕ) (body : List ℕ) (b : BatchInLog) → log_at log at body ≡ Ok b → b.log ≡ log
 unfolding log_at
 batch_of_log log at body b is =
     let r = after_ok (from at (log_in body)) (λ batch. Ok (batch_placed log at batch)) b is in
     let both : Ok (batch_placed log at r.0) ≡ Ok b = r.2 in
     let it : batch_placed log at r.0 ≡ b = cc in
-    subst (λ (x : Batch). x.log ≡ log) it refl
+    subst (λ (x : BatchInLog). x.log ≡ log) it refl
 
-batch_keeps_log : (P : ℕ → Type 0) (log : ℕ) → P log → (s t : List Batch) (at : ℕ) (body : List ℕ) → AllByRecursion (λ (b : Batch). P b.log) s → read_batch log s at body ≡ Ok t → AllByRecursion (λ (b : Batch). P b.log) t
+batch_keeps_log : (P : ℕ → Type 0) (log : ℕ) → P log → (s t : List BatchInLog) (at : ℕ) (body : List ℕ) → AllByRecursion (λ (b : BatchInLog). P b.log) s → read_batch log s at body ≡ Ok t → AllByRecursion (λ (b : BatchInLog). P b.log) t
 batch_keeps_log P log own s t at body all is =
-    let b = after_ok (log_at log at body) (λ b. if nat_lt (last_number s) b.first then Ok (s ++ b ∷ []) else wrong (at + 1) Order) t is in
+    let b = after_ok (log_at log at body) (λ b. if nat_lt (last_number s) b.first then Ok (s ++ b ∷ []) else damage_at (at + 1) Order) t is in
     let both : Ok (s ++ b.0 ∷ []) ≡ Ok t = (only_where (nat_lt (last_number s) b.0.first) _ _ t b.2).1 in
     let it : s ++ b.0 ∷ [] ≡ t = cc in
-    subst (λ (l : List Batch). AllByRecursion (λ (x : Batch). P x.log) l) it (all_push (λ (x : Batch). P x.log) s b.0 all (subst P (sym (batch_of_log log at body b.0 b.1)) own))
+    subst (λ (l : List BatchInLog). AllByRecursion (λ (x : BatchInLog). P x.log) l) it (all_push (λ (x : BatchInLog). P x.log) s b.0 all (subst P (sym (batch_of_log log at body b.0 b.1)) own))
 
-pub logs_keep : (P : ℕ → Type 0) (image : Contents) (logs : List ℕ) (s t : List Batch) → AllByRecursion P logs → AllByRecursion (λ (b : Batch). P b.log) s → read_logs image logs s ≡ Ok t → AllByRecursion (λ (b : Batch). P b.log) t
-logs_keep P image [] s t own all is = let both : Ok s ≡ Ok t = is in let it : s ≡ t = cc in subst (λ (l : List Batch). AllByRecursion (λ (b : Batch). P b.log) l) it all
+pub logs_keep : (P : ℕ → Type 0) (image : Contents) (logs : List ℕ) (s t : List BatchInLog) → AllByRecursion P logs → AllByRecursion (λ (b : BatchInLog). P b.log) s → read_logs image logs s ≡ Ok t → AllByRecursion (λ (b : BatchInLog). P b.log) t
+logs_keep P image [] s t own all is = let both : Ok s ≡ Ok t = is in let it : s ≡ t = cc in subst (λ (l : List BatchInLog). AllByRecursion (λ (b : BatchInLog). P b.log) l) it all
 logs_keep P image (log ∷ logs) s t own all is =
     let u = after_ok (read_gated image (read_batch log) (Log log) s) (λ more. read_logs image logs more) t is in
     let walked = in_file_ok (Log log) (read_walk (read_batch log) s (gates (image (Log log)))) u.0 u.1 in
     logs_keep P image logs u.0 t own.1
-    (bodies_keep (λ (l : List Batch). AllByRecursion (λ (b : Batch). P b.log) l) (read_batch log) (batch_keeps_log P log own.0) s u.0 (gates (image (Log log))).bodies all (whole_walk (read_batch log) s u.0 (gates (image (Log log))) walked)) u.2
+    (bodies_keep (λ (l : List BatchInLog). AllByRecursion (λ (b : BatchInLog). P b.log) l) (read_batch log) (batch_keeps_log P log own.0) s u.0 (gates (image (Log log))).bodies all (whole_walk (read_batch log) s u.0 (gates (image (Log log))) walked)) u.2
 
 -- ---- both
 
-joined_low : (w : ℕ) (top : ℕ → Option ℕ) (xs : List Batch) → AllByRecursion (λ (b : Batch). IsUpTo w (top b.log)) xs
-    → ((log : ℕ) → IsUpTo w (top log) → AllByRecursion (λ (b : Batch). b.log ≡ log → AllByRecursion (HasNoneBehind w) (map (λ r. r.it) b.records)) xs)
-    → AllByRecursion (HasNoneBehind w) (log_records xs)
+joined_low : (w : ℕ) (top : ℕ → Option ℕ) (xs : List BatchInLog) → AllByRecursion (λ (b : BatchInLog). IsUpTo w (top b.log)) xs
+    → ((log : ℕ) → IsUpTo w (top log) → AllByRecursion (λ (b : BatchInLog). b.log ≡ log → AllByRecursion (HasNoneBehind w) (map (λ r. r.it) b.records)) xs)
+    → AllByRecursion (HasNoneBehind w) (records_of_batches xs)
 joined_low w top [] low each = tt
 joined_low w top (b ∷ xs) low each =
     join (map (λ r. r.it) b.records) ((each b.log low.0).0 refl) (joined_low w top xs low.1 (λ log l. (each log l).1)) where
-      join : (front : List LogRecord) → AllByRecursion (HasNoneBehind w) front → AllByRecursion (HasNoneBehind w) (log_records xs) → AllByRecursion (HasNoneBehind w) (front ++ log_records xs)
+      join : (front : List LogRecord) → AllByRecursion (HasNoneBehind w) front → AllByRecursion (HasNoneBehind w) (records_of_batches xs) → AllByRecursion (HasNoneBehind w) (front ++ records_of_batches xs)
       join [] a rest = rest
       join (r ∷ front) a rest = (a.0, join front a.1 rest)
 
@@ -109,6 +109,6 @@ low_tops image w earlier later batches dropped is early low =
     let a = logs_add image later p.0 batches p.2 in
     let splits : batches ≡ dropped ++ a.more = a.is ∙ ap (λ l. l ++ a.more) same in
     joined_low w (λ log. top_of log batches) dropped (logs_keep (λ log. IsUpTo w (top_of log batches)) image earlier [] dropped low tt early)
-    (λ log up. left_all (λ (b : Batch). b.log ≡ log → AllByRecursion (HasNoneBehind w) (map (λ r. r.it) b.records)) dropped a.more
-    (subst (λ (l : List Batch). AllByRecursion (λ (b : Batch). b.log ≡ log → AllByRecursion (HasNoneBehind w) (map (λ r. r.it) b.records)) l) splits
+    (λ log up. left_all (λ (b : BatchInLog). b.log ≡ log → AllByRecursion (HasNoneBehind w) (map (λ r. r.it) b.records)) dropped a.more
+    (subst (λ (l : List BatchInLog). AllByRecursion (λ (b : BatchInLog). b.log ≡ log → AllByRecursion (HasNoneBehind w) (map (λ r. r.it) b.records)) l) splits
     (own_low w log batches (all_under w (filter_map put_window (flat_map (λ b. map (λ r. r.it) b.records) (filter (λ b. nat_eq b.log log) batches))) up))))

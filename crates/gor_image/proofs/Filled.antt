@@ -13,7 +13,7 @@ use Rattle.gor_model.proofs.PlainMapLaws.{with_point, raised_to}
 use Rattle.gor_log.specs.declared.record.LogRecord.{LogRecord}
 use Rattle.gor_log.specs.declared.record.LogRecord.TheVariants.{Put, Seal}
 use Rattle.gor_image.specs.Records.{BlockRow, Base}
-use Rattle.gor_image.specs.Recovery.{is_above, put_point, seal_end, block_points, points_of, filled}
+use Rattle.gor_image.specs.Recovery.{is_above, put_point, seal_end, block_points, points_of_series, filled}
 
 -- rows with the same fields
 pub row_same : {name name' : List ℕ} {slot slot' uid uid' floor floor' : ℕ} {points points' : List Point}
@@ -49,14 +49,14 @@ module _ (base : Base) (blocks : List BlockRow) (log : List LogRecord) (row : Ro
   filled_other x no_put no_seal =
       rw (none_more (put_point base row.uid) log x no_put, none_more (seal_end row.uid) log x no_seal) refl
 
-  pub points_other : (x : LogRecord) → put_point base row.uid x ≡ None → points_of base blocks (log ++ x ∷ []) row.uid ≡ points_of base blocks log row.uid
+  pub points_other : (x : LogRecord) → put_point base row.uid x ≡ None → points_of_series base blocks (log ++ x ∷ []) row.uid ≡ points_of_series base blocks log row.uid
   points_other x no_put = rw (none_more (put_point base row.uid) log x no_put) refl
 
   own_put : (t w : ℕ) → is_above base.window (window t) ≡ true → put_point base row.uid (Put row.uid t w) ≡ Some (record { time = t; word = w })
   own_put t w above = let own : nat_eq row.uid row.uid ≡ true = eq-eqb row.uid row.uid refl in rw (own, above) refl
 
   pub points_put : (t w : ℕ) → is_above base.window (window t) ≡ true
-      → points_of base blocks (log ++ Put row.uid t w ∷ []) row.uid ≡ points_of base blocks log row.uid ++ record { time = t; word = w } ∷ []
+      → points_of_series base blocks (log ++ Put row.uid t w ∷ []) row.uid ≡ points_of_series base blocks log row.uid ++ record { time = t; word = w } ∷ []
   points_put t w above =
       ap (λ (l : List Point). flat_map (block_points row.uid) blocks ++ l) (some_more (put_point base row.uid) log (Put row.uid t w) (record { time = t; word = w }) (own_put t w above))
       ∙ sym (append_assoc (flat_map (block_points row.uid) blocks) (filter_map (put_point base row.uid) log) (record { time = t; word = w } ∷ []))
@@ -64,9 +64,9 @@ module _ (base : Base) (blocks : List BlockRow) (log : List LogRecord) (row : Ro
   pub filled_put : (plain : Row) (t w : ℕ) → filled base blocks log row ≡ with_kept plain → is_above base.window (window t) ≡ true
       → filled base blocks (log ++ Put row.uid t w ∷ []) row ≡ with_kept (with_point (record { time = t; word = w }) plain)
   filled_put plain t w is above = row_same (ap (λ (r : Row). r.name) is) (ap (λ (r : Row). r.slot) is) (ap (λ (r : Row). r.uid) is) (same_seals ∙ floors)
-      (ap (λ f. kept f (points_of base blocks (log ++ Put row.uid t w ∷ []) row.uid)) same_seals
+      (ap (λ f. kept f (points_of_series base blocks (log ++ Put row.uid t w ∷ []) row.uid)) same_seals
       ∙ ap (kept floor) (points_put t w above)
-      ∙ filter-append (is_kept floor) (points_of base blocks log row.uid) (p ∷ [])
+      ∙ filter-append (is_kept floor) (points_of_series base blocks log row.uid) (p ∷ [])
       ∙ ap (λ (l : List Point). l ++ kept floor (p ∷ [])) (ap (λ (r : Row). r.points) is)
       ∙ ap (λ f. kept plain.floor plain.points ++ kept f (p ∷ [])) floors
       ∙ sym (filter-append (is_kept plain.floor) plain.points (p ∷ []))) where
@@ -88,9 +88,9 @@ module _ (base : Base) (blocks : List BlockRow) (log : List LogRecord) (row : Ro
   pub filled_seal : (plain : Row) (w : ℕ) → filled base blocks log row ≡ with_kept plain
       → filled base blocks (log ++ Seal row.uid w ∷ []) row ≡ with_kept (raised_to (window_end w) plain)
   filled_seal plain w is = row_same (ap (λ (r : Row). r.name) is) (ap (λ (r : Row). r.slot) is) (ap (λ (r : Row). r.uid) is) (more ∙ ap (λ f. max f (window_end w)) floors)
-      (ap (λ f. kept f (points_of base blocks (log ++ Seal row.uid w ∷ []) row.uid)) more
+      (ap (λ f. kept f (points_of_series base blocks (log ++ Seal row.uid w ∷ []) row.uid)) more
       ∙ ap (λ l. kept (max floor (window_end w)) (flat_map (block_points row.uid) blocks ++ l)) (none_more (put_point base row.uid) log (Seal row.uid w) refl)
-      ∙ sym (kept_kept floor (max floor (window_end w)) (points_of base blocks log row.uid) (omega arith))
+      ∙ sym (kept_kept floor (max floor (window_end w)) (points_of_series base blocks log row.uid) (omega arith))
       ∙ ap (kept (max floor (window_end w))) (ap (λ (r : Row). r.points) is)
       ∙ ap (λ f. kept (max f (window_end w)) (kept plain.floor plain.points)) floors
       ∙ kept_kept plain.floor (max plain.floor (window_end w)) plain.points (omega arith)) where

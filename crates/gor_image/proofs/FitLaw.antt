@@ -17,14 +17,14 @@ use Rattle.gor_marks.specs.declared.mark.Mark.{Mark}
 use Rattle.gor_keys.specs.declared.record.KeyRecord.{KeyRecord}
 use Rattle.gor_keys.specs.declared.record.KeyRecord.TheVariants.{Create, Delete, Live}
 use Rattle.gor_image.specs.declared.fault.ImageFault.{ImageFault}
-use Rattle.gor_image.specs.Records.{Placed, Batch, BlockRow, Files}
-use Rattle.gor_image.specs.Recovery.{Names, names_of, recovered, next_of, ShardMap, filled, log_records}
-use Rattle.gor_image.specs.Holding.{HoldsState, IsFit, Stand, RecoverTo, start_of}
+use Rattle.gor_image.specs.Records.{Placed, BatchInLog, BlockRow, Files}
+use Rattle.gor_image.specs.Recovery.{Names, names_of, recovered, next_of, ShardMap, filled, records_of_batches}
+use Rattle.gor_image.specs.Holding.{HoldsState, IsFit, Stand, RecoverTo, start_of_map}
 use Rattle.gor_image.specs.Grammars.{and_then}
-use Rattle.gor_image.specs.Images.{read_gated, read_walk, KeysRead, read_keys, read_logs, read_blocks, read_files, marks_of, map_of, map_of_marks, map_of_files, current, base_of, live_windows, remaining_logs, same_home, Holds}
+use Rattle.gor_image.specs.Images.{read_gated, read_walk, KeysRead, read_keys, read_logs, read_blocks, read_files, marks_of, map_of, map_of_marks, map_of_files, current, base_of, live_windows, remaining_logs, same_home, HoldsChanges}
 use Rattle.gor_image.specs.Fit.{HasBody, IsFitStore, IsFitBy, FitHolds}
 use Rattle.gor_image.specs.Appends.{keys_from, files_as, ImageStands, ImageHolds}
-use Rattle.gor_image.specs.Laws.{IsBefore, AreClosed}
+use Rattle.gor_image.specs.Laws.{MayBeWrittenOn, AreClosed}
 use Rattle.gor_image.proofs.AnyMarks.{reads_as}
 use Rattle.gor_image.proofs.MapHeld.{stands_held}
 use Rattle.gor_image.proofs.Mapped.{IsMap, is_map, map_is}
@@ -39,7 +39,7 @@ use Rattle.gor_image.proofs.FitStands.{KeysRight, keys_right, bodies_counted, wh
 pub record FilesRead (image : Contents) (marks : List Mark) (files : Files) : Type 0 where
   pub keys : KeysRead
   pub blocks : List BlockRow
-  pub batches : List Batch
+  pub batches : List BatchInLog
   pub keys_read : read_gated image (read_keys (nat_lt 0 (current marks))) (Keys (current marks)) (keys_from (base_of marks).upto) ≡ Ok keys
   pub blocks_read : read_blocks image (live_windows marks) ≡ Ok blocks
   pub logs_read : read_logs image (remaining_logs marks) [] ≡ Ok batches
@@ -115,11 +115,11 @@ module _ (shards shard : ℕ) (image : Contents) (m : Mark) (marks : List Mark) 
 
     low_found : (k : List ℕ) (r : Row) → (recovered (files_as (m ∷ marks) read.keys read.blocks read.batches) store.names).row k ≡ Some r → r.slot < slots_of_a_shard
     low_found k r is = at (store.names.row k) refl is where
-      at : (o : Option Row) → store.names.row k ≡ o → option_map (filled (base_of (m ∷ marks)) read.blocks (log_records read.batches)) o ≡ Some r → r.slot < slots_of_a_shard
+      at : (o : Option Row) → store.names.row k ≡ o → option_map (filled (base_of (m ∷ marks)) read.blocks (records_of_batches read.batches)) o ≡ Some r → r.slot < slots_of_a_shard
       at None e f = absurd (let both : None ≡ Some r = f in cc)
       at (Some x) e f =
-          let both : Some (filled (base_of (m ∷ marks)) read.blocks (log_records read.batches) x) ≡ Some r = f in
-          let it : filled (base_of (m ∷ marks)) read.blocks (log_records read.batches) x ≡ r = cc in
+          let both : Some (filled (base_of (m ∷ marks)) read.blocks (records_of_batches read.batches) x) ≡ Some r = f in
+          let it : filled (base_of (m ∷ marks)) read.blocks (records_of_batches read.batches) x ≡ r = cc in
           subst (λ (y : Row). y.slot < slots_of_a_shard) it (low k x e)
 
     recover : RecoverTo (files_as (m ∷ marks) read.keys read.blocks read.batches) store.names
@@ -131,26 +131,26 @@ module _ (shards shard : ℕ) (image : Contents) (m : Mark) (marks : List Mark) 
 
     pub store_keyed : (k : List ℕ) (r : Row) → (recovered store.files store.names).row k ≡ Some r → k ≡ key_of r.name
     store_keyed k r is = at (store.names.row k) refl is where
-      at : (o : Option Row) → store.names.row k ≡ o → option_map (filled store.files.base store.files.blocks (log_records store.files.batches)) o ≡ Some r → k ≡ key_of r.name
+      at : (o : Option Row) → store.names.row k ≡ o → option_map (filled store.files.base store.files.blocks (records_of_batches store.files.batches)) o ≡ Some r → k ≡ key_of r.name
       at None e f = absurd (let both : None ≡ Some r = f in cc)
       at (Some x) e f =
-          let both : Some (filled store.files.base store.files.blocks (log_records store.files.batches) x) ≡ Some r = f in
-          let it : filled store.files.base store.files.blocks (log_records store.files.batches) x ≡ r = cc in
+          let both : Some (filled store.files.base store.files.blocks (records_of_batches store.files.batches) x) ≡ Some r = f in
+          let it : filled store.files.base store.files.blocks (records_of_batches store.files.batches) x ≡ r = cc in
           subst (λ (y : Row). k ≡ key_of y.name) it (read_have IsKeyed store.files store.names store.names_are (all_keyed store.files.keys) k x e)
 
     -- its files stand for their own start
-    start_stands : (slots : ℕ) → Stand (files_as (m ∷ marks) read.keys read.blocks read.batches) (start_of slots (recovered (files_as (m ∷ marks) read.keys read.blocks read.batches) store.names)) []
+    start_stands : (slots : ℕ) → Stand (files_as (m ∷ marks) read.keys read.blocks read.batches) (start_of_map slots (recovered (files_as (m ∷ marks) read.keys read.blocks read.batches) store.names)) []
     start_stands slots = opening_law (files_as (m ∷ marks) read.keys read.blocks read.batches) store.names slots recover fit low_found
 
-    pub start_held : (slots : ℕ) → HoldsState (recovered store.files store.names) (start_of slots (recovered store.files store.names)) []
+    pub start_held : (slots : ℕ) → HoldsState (recovered store.files store.names) (start_of_map slots (recovered store.files store.names)) []
     start_held slots =
         let s = start_stands slots in
         let both : Ok s.names ≡ Ok store.names = sym s.recover.reads ∙ names_are in
         let it : s.names ≡ store.names = cc in
-        subst (λ (f : Files). HoldsState (recovered f store.names) (start_of slots (recovered f store.names)) []) read.are
-        (subst (λ (ns : Names). HoldsState (recovered (files_as (m ∷ marks) read.keys read.blocks read.batches) ns) (start_of slots (recovered (files_as (m ∷ marks) read.keys read.blocks read.batches) store.names)) []) it s.holds)
+        subst (λ (f : Files). HoldsState (recovered f store.names) (start_of_map slots (recovered f store.names)) []) read.are
+        (subst (λ (ns : Names). HoldsState (recovered (files_as (m ∷ marks) read.keys read.blocks read.batches) ns) (start_of_map slots (recovered (files_as (m ∷ marks) read.keys read.blocks read.batches) store.names)) []) it s.holds)
 
-    module _ (start : Start) (C : List Change) (holds : Holds shards shard image start C) (next : holds.map.next ≤ next_change start C) where
+    module _ (start : Start) (C : List Change) (holds : HoldsChanges shards shard image start C) (next : holds.map.next ≤ next_change start C) where
       same_map : holds.map ≡ recovered store.files store.names
       same_map = let both : Ok holds.map ≡ Ok (recovered store.files store.names) = sym holds.is ∙ map_is_of store.files (recovered store.files store.names) marks_are store.home store.files_are store.map_is in cc
 
@@ -227,9 +227,9 @@ module _ (shards shard : ℕ) (image : Contents) (m : Mark) (marks : List Mark) 
 
   -- what stands is before the next changes where its files are closed
   pub before_of_stands : (start : Start) (C : List Change) → ImageStands image (m ∷ marks) start C → same_home shards shard (m ∷ marks) ≡ Ok tt → AreClosed image (current (m ∷ marks))
-      → HasBody (base_of (m ∷ marks)).window (gates (image (Keys (current (m ∷ marks))))).bodies → IsBefore shards shard image (m ∷ marks) start C
+      → HasBody (base_of (m ∷ marks)).window (gates (image (Keys (current (m ∷ marks))))).bodies → MayBeWrittenOn shards shard image (m ∷ marks) start C
   before_of_stands start C s home closed body = with_fit (fit_of_holds start C (stands_held image (m ∷ marks) start C s) home closed.marks closed.keys closed.log body) where
-    with_fit : FitHolds shards shard image start C → IsBefore shards shard image (m ∷ marks) start C
+    with_fit : FitHolds shards shard image start C → MayBeWrittenOn shards shard image (m ∷ marks) start C
     with_fit f = record { fit = f; marks_are = s.marks_are; next = low } where
       low : f.holds.map.next ≤ next_change start C
       low =

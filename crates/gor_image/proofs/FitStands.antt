@@ -6,7 +6,7 @@ use Rattle.std.specs.Int.{w64}
 use Rattle.std.proofs.lemmas.List.{append_assoc, append-nil, length-append}
 use Rattle.std.proofs.lemmas.List.Elements.{filter_map-append}
 use Rattle.gor_model.specs.PlainMap.{last_of}
-use Rattle.gor_model.specs.Fields.{number_in as field_in, is_number}
+use Rattle.gor_model.specs.Fields.{field_in, is_number}
 use Rattle.gor_model.proofs.Lists.{last_push, all_joined, all_weaker, all_push}
 use Rattle.gor_model.proofs.FieldLaws.{bind_ok}
 use Rattle.gor_gate.specs.Gates.{Walk, gates}
@@ -14,16 +14,16 @@ use Rattle.gor_marks.specs.declared.mark.Mark.{Mark}
 use Rattle.gor_marks.specs.declared.mark.Mark.TheVariants.{Home, Sealed}
 use Rattle.gor_keys.specs.declared.record.KeyRecord.{KeyRecord}
 use Rattle.gor_keys.specs.declared.record.KeyRecord.TheVariants.{Create, Delete, Live}
-use Rattle.gor_log.specs.Spelling as log_spelling
-use Rattle.gor_log.specs.Reading.{log_in, header_in, is_range, records_in as log_records_in, batch as spelled_batch}
+use Rattle.gor_log.specs.Spelling.{Batch}
+use Rattle.gor_log.specs.Reading.{log_in, header_in, is_range, log_records_in, batch as spelled_batch}
 use Rattle.gor_disk.specs.declared.disk.FileId.TheVariants.{Marks, Log}
 use Rattle.gor_disk.specs.Disk.{Contents}
 use Rattle.gor_image.specs.declared.fault.DamageKind.{DamageKind}
 use Rattle.gor_image.specs.declared.fault.DamageKind.TheVariants.{Order}
-use Rattle.gor_image.specs.Records.{Placed, Batch}
-use Rattle.gor_image.specs.Recovery.{number_in, is_above}
+use Rattle.gor_image.specs.Records.{Placed, BatchInLog}
+use Rattle.gor_image.specs.Recovery.{change_number_in, is_above}
 use Rattle.gor_image.specs.Holding.{RiseAbove, BatchesRise}
-use Rattle.gor_image.specs.Grammars.{Reads, and_then, wrong, from, mark_at, keys_at, log_at, batch_placed}
+use Rattle.gor_image.specs.Grammars.{Reads, and_then, damage_at, from, mark_at, keys_at, log_at, batch_placed}
 use Rattle.gor_image.specs.Images.{read_bodies, read_walk, KeysRead, key_after, keys_after, read_keys, read_batch, read_gated, read_logs, last_number, or_zero, mark_after, read_mark, is_none, current, base_of, first_log_of, sealed_window, sealed_first_log}
 use Rattle.gor_image.proofs.Append.{rise_more}
 use Rattle.gor_image.proofs.Pushed.{in_file_ok}
@@ -60,7 +60,7 @@ number_push upto done st t n f inv is =
       above = let h = inv.above in omega arith;
     })
 
-one_key : (upto : ℕ) (done : List ℕ) (st t : KeysRead) (at : ℕ) (r : KeyRecord) → KeysInv upto done st → key_after st at r ≡ Ok t → KeysInv upto (done ++ cons_option (number_in r) []) t
+one_key : (upto : ℕ) (done : List ℕ) (st t : KeysRead) (at : ℕ) (r : KeyRecord) → KeysInv upto done st → key_after st at r ≡ Ok t → KeysInv upto (done ++ cons_option (change_number_in r) []) t
 one_key upto done st t at (Create n s f name) inv is = number_push upto done st t n _ inv is
 one_key upto done st t at (Delete n s) inv is = number_push upto done st t n _ inv is
 one_key upto done st t at (Live u s f name) inv is =
@@ -69,17 +69,17 @@ one_key upto done st t at (Live u s f name) inv is =
     let it : record st { slot = Some s } ≡ t = cc in
     subst (λ l. KeysInv upto l t) (sym (append-nil done)) (subst (KeysInv upto done) it (record { rise = inv.rise; below = inv.below; above = inv.above }))
 
-many_keys : (upto : ℕ) (done : List ℕ) (st t : KeysRead) (rs : List (Placed KeyRecord)) → KeysInv upto done st → keys_after st rs ≡ Ok t → KeysInv upto (done ++ filter_map (λ r. number_in r.it) rs) t
+many_keys : (upto : ℕ) (done : List ℕ) (st t : KeysRead) (rs : List (Placed KeyRecord)) → KeysInv upto done st → keys_after st rs ≡ Ok t → KeysInv upto (done ++ filter_map (λ r. change_number_in r.it) rs) t
 many_keys upto done st t [] inv is = let both : Ok st ≡ Ok t = is in let it : st ≡ t = cc in subst (λ l. KeysInv upto l t) (sym (append-nil done)) (subst (KeysInv upto done) it inv)
 many_keys upto done st t (r ∷ rs) inv is =
     let u = after_ok (key_after st r.at r.it) (λ v. keys_after v rs) t is in
-    subst (λ l. KeysInv upto l t) (onto (number_in r.it)) (many_keys upto (done ++ cons_option (number_in r.it) []) u.0 t rs (one_key upto done st u.0 r.at r.it inv u.1) u.2) where
-      onto : (o : Option ℕ) → (done ++ cons_option o []) ++ filter_map (λ r. number_in r.it) rs ≡ done ++ cons_option o (filter_map (λ r. number_in r.it) rs)
-      onto None = ap (λ l. l ++ filter_map (λ (r : Placed KeyRecord). number_in r.it) rs) (append-nil done)
-      onto (Some n) = append_assoc done (n ∷ []) (filter_map (λ r. number_in r.it) rs)
+    subst (λ l. KeysInv upto l t) (onto (change_number_in r.it)) (many_keys upto (done ++ cons_option (change_number_in r.it) []) u.0 t rs (one_key upto done st u.0 r.at r.it inv u.1) u.2) where
+      onto : (o : Option ℕ) → (done ++ cons_option o []) ++ filter_map (λ r. change_number_in r.it) rs ≡ done ++ cons_option o (filter_map (λ r. change_number_in r.it) rs)
+      onto None = ap (λ l. l ++ filter_map (λ (r : Placed KeyRecord). change_number_in r.it) rs) (append-nil done)
+      onto (Some n) = append_assoc done (n ∷ []) (filter_map (λ r. change_number_in r.it) rs)
 
 pub record KeysRight (upto : ℕ) (st : KeysRead) : Type 0 where
-  pub numbers : KeysInv upto (filter_map (λ r. number_in r.it) st.records) st
+  pub numbers : KeysInv upto (filter_map (λ r. change_number_in r.it) st.records) st
   pub low : AllByRecursion IsLow st.records
 
 keys_keep : (sealed : Bool) (upto : ℕ) (st t : KeysRead) (at : ℕ) (body : List ℕ) → KeysRight upto st → read_keys sealed st at body ≡ Ok t → KeysRight upto t
@@ -88,8 +88,8 @@ keys_keep sealed upto st t at body right is =
     let u = after_ok (keys_after st rs.0) (λ u. Ok (record u { bodies = st.bodies + 1; records = st.records ++ rs.0 })) t rs.2 in
     let both : Ok (record u.0 { bodies = st.bodies + 1; records = st.records ++ rs.0 }) ≡ Ok t = u.2 in
     let it : record u.0 { bodies = st.bodies + 1; records = st.records ++ rs.0 } ≡ t = cc in
-    let inv = many_keys upto (filter_map (λ r. number_in r.it) st.records) st u.0 rs.0 right.numbers u.1 in
-    let onto = sym (filter_map-append (λ (r : Placed KeyRecord). number_in r.it) st.records rs.0) in
+    let inv = many_keys upto (filter_map (λ r. change_number_in r.it) st.records) st u.0 rs.0 right.numbers u.1 in
+    let onto = sym (filter_map-append (λ (r : Placed KeyRecord). change_number_in r.it) st.records rs.0) in
     let moved = subst (λ l. KeysInv upto l u.0) onto inv in
     subst (KeysRight upto) it (record {
       numbers = record { rise = moved.rise; below = moved.below; above = moved.above };
@@ -124,7 +124,7 @@ middle true false true e = absurd (cc)
 middle true false false e = absurd (cc)
 middle false b c e = absurd (cc)
 
-header_rises : (bytes : List ℕ) (b : log_spelling.Batch) → header_in bytes ≡ Ok b → b.first ≤ b.last
+header_rises : (bytes : List ℕ) (b : Batch) → header_in bytes ≡ Ok b → b.first ≤ b.last
 unfolding header_in
 header_rises bytes b is =
     let a = unless (nat_lt (length bytes) 16) _ _ b is in
@@ -134,50 +134,50 @@ header_rises bytes b is =
     let it : spelled_batch (field_in w64 0 bytes) (field_in w64 8 bytes) r.0 ≡ b = cc in
     let test : nat_le (field_in w64 0 bytes) (field_in w64 8 bytes) ≡ true =
     middle (is_number (field_in w64 0 bytes)) (nat_le (field_in w64 0 bytes) (field_in w64 8 bytes)) (is_number (field_in w64 8 bytes)) (not_false (is_range (field_in w64 0 bytes) (field_in w64 8 bytes)) c.0) in
-    subst (λ (x : log_spelling.Batch). x.first ≤ x.last) it (truth (field_in w64 0 bytes) (field_in w64 8 bytes) test)
+    subst (λ (x : Batch). x.first ≤ x.last) it (truth (field_in w64 0 bytes) (field_in w64 8 bytes) test)
 
-log_rises : (body : List ℕ) (b : log_spelling.Batch) → log_in body ≡ Ok b → b.first ≤ b.last
+log_rises : (body : List ℕ) (b : Batch) → log_in body ≡ Ok b → b.first ≤ b.last
 unfolding log_in
 log_rises [] b is = absurd (cc)
 log_rises (v ∷ rest) b is = header_rises rest b (only_where (v == 1) _ _ b is).1
 
-batch_rises : (log at : ℕ) (body : List ℕ) (b : Batch) → log_at log at body ≡ Ok b → b.first ≤ b.last
+batch_rises : (log at : ℕ) (body : List ℕ) (b : BatchInLog) → log_at log at body ≡ Ok b → b.first ≤ b.last
 unfolding log_at
 batch_rises log at body b is =
     let a = after_ok (from at (log_in body)) (λ x. Ok (batch_placed log at x)) b is in
     let both : Ok (batch_placed log at a.0) ≡ Ok b = a.2 in
     let it : batch_placed log at a.0 ≡ b = cc in
-    subst (λ (x : Batch). x.first ≤ x.last) it (log_rises body a.0 (from_ok at (log_in body) a.0 a.1))
+    subst (λ (x : BatchInLog). x.first ≤ x.last) it (log_rises body a.0 (from_ok at (log_in body) a.0 a.1))
 
-last_from : ℕ → List Batch → ℕ
+last_from : ℕ → List BatchInLog → ℕ
 last_from n [] = n
 last_from n (b ∷ more) = last_from b.last more
 
-last_is : (n : ℕ) (b : Batch) (more : List Batch) → last_from n (b ∷ more) ≡ last_number (b ∷ more)
+last_is : (n : ℕ) (b : BatchInLog) (more : List BatchInLog) → last_from n (b ∷ more) ≡ last_number (b ∷ more)
 unfolding last_from
 last_is n b [] = refl
-last_is n b (c ∷ more) = last_is b.last c more ∙ ap (λ (o : Option Batch). or_zero (option_map (λ (x : Batch). x.last) o)) (let e : Some (unwrap_or (last_of more) c) ≡ Some (unwrap_or (Some (unwrap_or (last_of more) c)) b) = refl in e)
+last_is n b (c ∷ more) = last_is b.last c more ∙ ap (λ (o : Option BatchInLog). or_zero (option_map (λ (x : BatchInLog). x.last) o)) (let e : Some (unwrap_or (last_of more) c) ≡ Some (unwrap_or (Some (unwrap_or (last_of more) c)) b) = refl in e)
 
-last_of_all : (batches : List Batch) → last_from 0 batches ≡ last_number batches
+last_of_all : (batches : List BatchInLog) → last_from 0 batches ≡ last_number batches
 unfolding last_from
 last_of_all [] = refl
 last_of_all (b ∷ more) = last_is 0 b more
 
-rise_push : (n : ℕ) (batches : List Batch) (b : Batch) → BatchesRise n batches → last_from n batches < b.first → b.first ≤ b.last → BatchesRise n (batches ++ b ∷ [])
+rise_push : (n : ℕ) (batches : List BatchInLog) (b : BatchInLog) → BatchesRise n batches → last_from n batches < b.first → b.first ≤ b.last → BatchesRise n (batches ++ b ∷ [])
 unfolding last_from
 rise_push n [] b rise less le = (less, le, tt)
 rise_push n (c ∷ batches) b rise less le = (rise.0, rise.1, rise_push c.last batches b rise.2 less le)
 
-batch_keeps : (log : ℕ) (s t : List Batch) (at : ℕ) (body : List ℕ) → BatchesRise 0 s → read_batch log s at body ≡ Ok t → BatchesRise 0 t
+batch_keeps : (log : ℕ) (s t : List BatchInLog) (at : ℕ) (body : List ℕ) → BatchesRise 0 s → read_batch log s at body ≡ Ok t → BatchesRise 0 t
 batch_keeps log s t at body rise is =
-    let b = after_ok (log_at log at body) (λ b. if nat_lt (last_number s) b.first then Ok (s ++ b ∷ []) else wrong (at + 1) Order) t is in
+    let b = after_ok (log_at log at body) (λ b. if nat_lt (last_number s) b.first then Ok (s ++ b ∷ []) else damage_at (at + 1) Order) t is in
     let a = only_where (nat_lt (last_number s) b.0.first) _ (Ok (s ++ b.0 ∷ [])) t b.2 in
     let less : last_number s < b.0.first = (let test = a.0 in grind arith) in
     let both : Ok (s ++ b.0 ∷ []) ≡ Ok t = a.1 in
     let it : s ++ b.0 ∷ [] ≡ t = cc in
     subst (BatchesRise 0) it (rise_push 0 s b.0 rise (subst (λ n. n < b.0.first) (sym (last_of_all s)) less) (batch_rises log at body b.0 b.1))
 
-pub logs_rise : (image : Contents) (logs : List ℕ) (s t : List Batch) → BatchesRise 0 s → read_logs image logs s ≡ Ok t → BatchesRise 0 t
+pub logs_rise : (image : Contents) (logs : List ℕ) (s t : List BatchInLog) → BatchesRise 0 s → read_logs image logs s ≡ Ok t → BatchesRise 0 t
 logs_rise image [] s t rise is = let both : Ok s ≡ Ok t = is in let it : s ≡ t = cc in subst (BatchesRise 0) it rise
 logs_rise image (log ∷ logs) s t rise is =
     let u = after_ok (read_gated image (read_batch log) (Log log) s) (λ more. read_logs image logs more) t is in

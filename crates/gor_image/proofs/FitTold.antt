@@ -18,7 +18,7 @@ use Rattle.gor_log.specs.declared.record.LogRecord.{LogRecord}
 use Rattle.gor_log.specs.declared.record.LogRecord.TheVariants.{Put, Floor, Seal}
 use Rattle.gor_image.specs.declared.fault.ImageFault.{ImageFault}
 use Rattle.gor_image.specs.Records.{Placed, Files}
-use Rattle.gor_image.specs.Recovery.{Names, WrongName, ShardMap, and_at, base_end, counted_keys, freed, log_records, named, names_of, no_names, read_each, read_name, recovered, with_name, without_name}
+use Rattle.gor_image.specs.Recovery.{Names, WrongName, ShardMap, and_at, base_end, counted_keys, freed, records_of_batches, name_added, names_of, no_names, read_each, read_name, recovered, with_name, without_name}
 use Rattle.gor_image.specs.Holding.{IsFit, IsKeyUidBelow, IsUidBelow}
 use Rattle.gor_image.specs.Grammars.{and_then}
 use Rattle.gor_image.specs.Images.{base_of, current, map_of_files, marks_of, names_in, read_files, rows_by_slot, rows_rise, same_home}
@@ -26,45 +26,45 @@ use Rattle.gor_image.specs.Fit.{HasBody, IsFitBy, IsFitFor, IsFitStore}
 use Rattle.gor_image.proofs.ReadBack.{unless}
 
 -- it holds, or it does not
-abbrev pub Told : Type 0 → Type 0
-Told P = P ⊎ (¬ P)
+abbrev pub IsDecided : Type 0 → Type 0
+IsDecided P = P ⊎ (¬ P)
 
-told_as : {P Q : Type 0} → (P → Q) → (Q → P) → Told P → Told Q
+told_as : {P Q : Type 0} → (P → Q) → (Q → P) → IsDecided P → IsDecided Q
 told_as to from (inl here) = inl (to here)
 told_as to from (inr never) = inr (λ q. never (from q))
 
-both : {P Q : Type 0} → Told P → Told Q → Told (P × Q)
+both : {P Q : Type 0} → IsDecided P → IsDecided Q → IsDecided (P × Q)
 both (inl here) (inl more) = inl (here, more)
 both (inl here) (inr never) = inr (λ b. never b.1)
 both (inr never) other = inr (λ b. never b.0)
 
-either : {P Q : Type 0} → Told P → Told Q → Told (P ⊎ Q)
+either : {P Q : Type 0} → IsDecided P → IsDecided Q → IsDecided (P ⊎ Q)
 either (inl here) other = inl (inl here)
 either (inr first) (inl here) = inl (inr here)
 either (inr first) (inr second) = inr (λ any. ⊎_elim first second any)
 
-less : (n m : ℕ) → Told (n < m)
+less : (n m : ℕ) → IsDecided (n < m)
 less n m = ⊎_elim (λ (here : n < m). inl here) (λ (never : m ≤ n). inr (λ low. absurd (omega (arith, low, never)))) (cases_lt n m)
 
-at_most : (n m : ℕ) → Told (n ≤ m)
+at_most : (n m : ℕ) → IsDecided (n ≤ m)
 at_most n m = ⊎_elim (λ (never : m < n). inr (λ low. absurd (omega (arith, low, never)))) (λ (here : n ≤ m). inl here) (cases_lt m n)
 
-true_told : (b : Bool) → Told (b ≡ true)
+true_told : (b : Bool) → IsDecided (b ≡ true)
 true_told true = inl refl
 true_told false = inr (λ e. absurd (cc))
 
-all_told : {X : Type 0} (P : X → Type 0) → ((x : X) → Told (P x)) → (xs : List X) → Told (AllByRecursion P xs)
+all_told : {X : Type 0} (P : X → Type 0) → ((x : X) → IsDecided (P x)) → (xs : List X) → IsDecided (AllByRecursion P xs)
 all_told P told [] = inl tt
 all_told P told (x ∷ xs) = both (told x) (all_told P told xs)
 
 -- what reading gives, with something of it
-ok_told : {A E : Type 0} (r : Result A E) (P : A → Type 0) → ((a : A) → r ≡ Ok a → Told (P a)) → Told ((a : A) × (r ≡ Ok a) × P a)
+ok_told : {A E : Type 0} (r : Result A E) (P : A → Type 0) → ((a : A) → r ≡ Ok a → IsDecided (P a)) → IsDecided ((a : A) × (r ≡ Ok a) × P a)
 ok_told {A} {E} r P told = by r refl where
-  pick : (a : A) → r ≡ Ok a → Told (P a) → Told ((b : A) × (r ≡ Ok b) × P b)
+  pick : (a : A) → r ≡ Ok a → IsDecided (P a) → IsDecided ((b : A) × (r ≡ Ok b) × P b)
   pick a is (inl here) = inl (a, is, here)
   pick a is (inr never) = inr (λ x. let both : Ok a ≡ Ok x.0 = sym is ∙ x.1 in let same : a ≡ x.0 = cc in never (subst P (sym same) x.2))
 
-  by : (o : Result A E) → r ≡ o → Told ((a : A) × (r ≡ Ok a) × P a)
+  by : (o : Result A E) → r ≡ o → IsDecided ((a : A) × (r ≡ Ok a) × P a)
   by (Ok a) is = pick a is (told a is)
   by (Err e) is = inr (λ x. absurd (let both : Err e ≡ Ok x.0 = sym is ∙ x.1 in cc))
 
@@ -76,7 +76,7 @@ Among k [] = ⊥
 Among k (l ∷ ls) = (k ≡ l) ⊎ Among k ls
 
 -- what holds of each key that is not in the list, and can be told of those in it, can be told of every key
-every_step : (P : List ℕ → Type 0) (l : List ℕ) (ls : List (List ℕ)) → ((k : List ℕ) → P k ⊎ ((k ≡ l) ⊎ Among k ls)) → Told (P l) → (((k : List ℕ) → P k ⊎ Among k ls) → Told ((k : List ℕ) → P k)) → Told ((k : List ℕ) → P k)
+every_step : (P : List ℕ → Type 0) (l : List ℕ) (ls : List (List ℕ)) → ((k : List ℕ) → P k ⊎ ((k ≡ l) ⊎ Among k ls)) → IsDecided (P l) → (((k : List ℕ) → P k ⊎ Among k ls) → IsDecided ((k : List ℕ) → P k)) → IsDecided ((k : List ℕ) → P k)
 every_step P l ls others (inl here) further = further (λ k. rest k (others k)) where
   rest : (k : List ℕ) → P k ⊎ ((k ≡ l) ⊎ Among k ls) → P k ⊎ Among k ls
   rest k (inl it) = inl it
@@ -84,7 +84,7 @@ every_step P l ls others (inl here) further = further (λ k. rest k (others k)) 
   rest k (inr (inr more)) = inr more
 every_step P l ls others (inr never) further = inr (λ all. never (all l))
 
-every_told : (P : List ℕ → Type 0) → ((k : List ℕ) → Told (P k)) → (keys : List (List ℕ)) → ((k : List ℕ) → P k ⊎ Among k keys) → Told ((k : List ℕ) → P k)
+every_told : (P : List ℕ → Type 0) → ((k : List ℕ) → IsDecided (P k)) → (keys : List (List ℕ)) → ((k : List ℕ) → P k ⊎ Among k keys) → IsDecided ((k : List ℕ) → P k)
 every_told P told [] others = inl (λ k. by k (others k)) where
   by : (k : List ℕ) → P k ⊎ ⊥ → P k
   by k (inl here) = here
@@ -100,7 +100,7 @@ and_its_key (Create number slot floor name) keys = key_of name ∷ keys
 and_its_key (Delete number slot) keys = keys
 and_its_key (Live uid slot floor name) keys = key_of name ∷ keys
 
-named_within : (names after : Names) (keys : List (List ℕ)) (uid slot floor : ℕ) (name : List ℕ) → named names uid slot floor name ≡ Ok after → IsWithin names keys → IsWithin after (key_of name ∷ keys)
+named_within : (names after : Names) (keys : List (List ℕ)) (uid slot floor : ℕ) (name : List ℕ) → name_added names uid slot floor name ≡ Ok after → IsWithin names keys → IsWithin after (key_of name ∷ keys)
 named_within names after keys uid slot floor name is within =
     let free = unless (is_some (names.holder slot)) WrongName.WrongSlot _ after is in
     let new = unless (is_some (names.row (key_of name))) WrongName.SameName _ after free.1 in
@@ -156,13 +156,13 @@ module _ (map : ShardMap) (keys : List (List ℕ)) (others : (k : List ℕ) → 
   none_of : (P : List ℕ → Row → Type 0) (k : List ℕ) → map.row k ≡ None → Of P k
   none_of P k never row is = absurd (let both : None ≡ Some row = sym never ∙ is in cc)
 
-  some_of : (P : List ℕ → Row → Type 0) (k : List ℕ) (r : Row) → map.row k ≡ Some r → Told (P k r) → Told (Of P k)
+  some_of : (P : List ℕ → Row → Type 0) (k : List ℕ) (r : Row) → map.row k ≡ Some r → IsDecided (P k r) → IsDecided (Of P k)
   some_of P k r there (inl here) = inl (λ row is. let both : Some r ≡ Some row = sym there ∙ is in let same : r ≡ row = cc in subst (P k) same here)
   some_of P k r there (inr never) = inr (λ all. never (all r there))
 
-  rows_told : (P : List ℕ → Row → Type 0) → ((k : List ℕ) (row : Row) → Told (P k row)) → Told ((k : List ℕ) (row : Row) → map.row k ≡ Some row → P k row)
+  rows_told : (P : List ℕ → Row → Type 0) → ((k : List ℕ) (row : Row) → IsDecided (P k row)) → IsDecided ((k : List ℕ) (row : Row) → map.row k ≡ Some row → P k row)
   rows_told P told = every_told (Of P) (λ k. by k (map.row k) refl) keys (λ k. rest k (others k)) where
-    by : (k : List ℕ) (o : Option Row) → map.row k ≡ o → Told (Of P k)
+    by : (k : List ℕ) (o : Option Row) → map.row k ≡ o → IsDecided (Of P k)
     by k None is = inl (none_of P k is)
     by k (Some r) is = some_of P k r is (told k r)
 
@@ -170,24 +170,24 @@ module _ (map : ShardMap) (keys : List (List ℕ)) (others : (k : List ℕ) → 
     rest k (inl never) = inl (none_of P k never)
     rest k (inr there) = inr there
 
-  floors_told : (low high : ℕ) → Told ((k : List ℕ) (row : Row) → map.row k ≡ Some row → (low ≤ row.floor) × (row.floor ≤ high))
+  floors_told : (low high : ℕ) → IsDecided ((k : List ℕ) (row : Row) → map.row k ≡ Some row → (low ≤ row.floor) × (row.floor ≤ high))
   floors_told low high = rows_told (λ k row. (low ≤ row.floor) × (row.floor ≤ high)) (λ k row. both (at_most low row.floor) (at_most row.floor high))
 
-  differ_told : Told ((k l : List ℕ) (row other : Row) → map.row k ≡ Some row → map.row l ≡ Some other → row.uid ≡ other.uid → k ≡ l)
+  differ_told : IsDecided ((k l : List ℕ) (row other : Row) → map.row k ≡ Some row → map.row l ≡ Some other → row.uid ≡ other.uid → k ≡ l)
   differ_told = told_as (λ all k l row other is too same. all k row is l other too same) (λ all k row is l other too same. all k l row other is too same)
       (rows_told (λ k row. (l : List ℕ) (other : Row) → map.row l ≡ Some other → row.uid ≡ other.uid → k ≡ l)
       (λ k row. rows_told (λ l other. row.uid ≡ other.uid → k ≡ l) (λ l other. by k l row.uid other.uid (eqb_tells row.uid other.uid) (bytes_tell k l)))) where
-        by : (k l : List ℕ) (a b : ℕ) → ((nat_eq a b ≡ true) × (a ≡ b)) ⊎ ((nat_eq a b ≡ false) × (a ≢ b)) → ((bytes_eq k l ≡ true) × (k ≡ l)) ⊎ ((bytes_eq k l ≡ false) × (k ≢ l)) → Told (a ≡ b → k ≡ l)
+        by : (k l : List ℕ) (a b : ℕ) → ((nat_eq a b ≡ true) × (a ≡ b)) ⊎ ((nat_eq a b ≡ false) × (a ≢ b)) → ((bytes_eq k l ≡ true) × (k ≡ l)) ⊎ ((bytes_eq k l ≡ false) × (k ≢ l)) → IsDecided (a ≡ b → k ≡ l)
         by k l a b (inr apart) other = inl (λ same. absurd (apart.1 same))
         by k l a b (inl same) (inl own) = inl (λ s. own.1)
         by k l a b (inl same) (inr other) = inr (λ all. other.1 (all same.1))
 
-key_uid_told : (n : ℕ) (r : KeyRecord) → Told (IsKeyUidBelow n r)
+key_uid_told : (n : ℕ) (r : KeyRecord) → IsDecided (IsKeyUidBelow n r)
 key_uid_told n (Create number slot floor name) = less number n
 key_uid_told n (Delete number slot) = inl tt
 key_uid_told n (Live uid slot floor name) = less uid n
 
-log_uid_told : (n : ℕ) (r : LogRecord) → Told (IsUidBelow n r)
+log_uid_told : (n : ℕ) (r : LogRecord) → IsDecided (IsUidBelow n r)
 log_uid_told n (Put uid time word) = less uid n
 log_uid_told n (Floor w) = inl tt
 log_uid_told n (Seal uid w) = less uid n
@@ -205,36 +205,36 @@ module _ (files : Files) (names : Names) (is : names_of files ≡ Ok names) wher
     by None never = inl (rw never refl)
     by (Some row) there = inr (keyed.within k row there)
 
-  fits_told : Told (IsFit files map)
+  fits_told : IsDecided (IsFit files map)
   fits_told =
       told_as (λ all. record { floors = all.0; uids_differ = all.1.0; key_uids = all.1.1.0; log_uids = all.1.1.1.0; block_uids = all.1.1.1.1 })
       (λ fit. (fit.floors, (fit.uids_differ, (fit.key_uids, (fit.log_uids, fit.block_uids)))))
       (both (floors_told map keyed.keys others (base_end files.base.window) map.floor)
       (both (differ_told map keyed.keys others)
       (both (all_told (λ r. IsKeyUidBelow map.next r.it) (λ r. key_uid_told map.next r.it) files.keys)
-      (both (all_told (IsUidBelow map.next) (log_uid_told map.next) (log_records files.batches))
+      (both (all_told (IsUidBelow map.next) (log_uid_told map.next) (records_of_batches files.batches))
       (all_told (λ b. b.uid < map.next) (λ b. less b.uid map.next) files.blocks)))))
 
 -- ---- the files of a store
 
-closed_told : (bytes : List ℕ) → Told (IsClosed bytes)
+closed_told : (bytes : List ℕ) → IsDecided (IsClosed bytes)
 closed_told bytes = either (at_most (length bytes) 1) (both (true_told (gates bytes).whole) (less (gates bytes).end (length bytes)))
 
-body_told : (window : Option ℕ) (bodies : List (ℕ × List ℕ)) → Told (HasBody window bodies)
+body_told : (window : Option ℕ) (bodies : List (ℕ × List ℕ)) → IsDecided (HasBody window bodies)
 body_told None bodies = inl tt
 body_told (Some w) [] = inr (λ some. some refl)
 body_told (Some w) (b ∷ bodies) = inl (λ none. absurd (cc))
 
-home_told : (r : Result ⊤ ImageFault) → Told (r ≡ Ok tt)
+home_told : (r : Result ⊤ ImageFault) → IsDecided (r ≡ Ok tt)
 home_told (Ok tt) = inl refl
 home_told (Err f) = inr (λ is. absurd (cc))
 
-map_told : (list : ℕ) (files : Files) (names : Names) → names_of files ≡ Ok names → Told (map_of_files list files ≡ Ok (recovered files names))
+map_told : (list : ℕ) (files : Files) (names : Names) → names_of files ≡ Ok names → IsDecided (map_of_files list files ≡ Ok (recovered files names))
 map_told list files names is = by (rows_rise files (rows_by_slot names)) refl where
   path : map_of_files list files ≡ and_then (rows_rise files (rows_by_slot names)) (λ t. Ok (recovered files names))
   path = ap (λ (r : Result Names (Placed WrongName)). and_then (names_in list r) (λ n. and_then (rows_rise files (rows_by_slot n)) (λ t. Ok (recovered files n)))) is
 
-  by : (r : Result ⊤ ImageFault) → rows_rise files (rows_by_slot names) ≡ r → Told (map_of_files list files ≡ Ok (recovered files names))
+  by : (r : Result ⊤ ImageFault) → rows_rise files (rows_by_slot names) ≡ r → IsDecided (map_of_files list files ≡ Ok (recovered files names))
   by (Ok t) rise = inl (path ∙ ap (λ (o : Result ⊤ ImageFault). and_then o (λ t. Ok (recovered files names))) rise)
   by (Err f) rise = inr (λ ok. absurd (let both : Err f ≡ Ok (recovered files names) = sym (path ∙ ap (λ (o : Result ⊤ ImageFault). and_then o (λ t. Ok (recovered files names))) rise) ∙ ok in cc))
 
@@ -244,11 +244,11 @@ HasNames marks files names = (map_of_files (current marks) files ≡ Ok (recover
 abbrev HasFiles : List Mark → Files → Type 0
 HasFiles marks files = (names : Names) × (names_of files ≡ Ok names) × HasNames marks files names
 
-files_told : (marks : List Mark) (files : Files) → Told (HasFiles marks files)
+files_told : (marks : List Mark) (files : Files) → IsDecided (HasFiles marks files)
 files_told marks files = ok_told (names_of files) (HasNames marks files) (λ names is. both (map_told (current marks) files names is) (fits_told files names is))
 
 module _ (shards shard : ℕ) (image : Contents) where
-  store_told : (marks : List Mark) → Told (IsFitStore shards shard image marks)
+  store_told : (marks : List Mark) → IsDecided (IsFitStore shards shard image marks)
   store_told marks =
       told_as (λ all. record {
         home = all.0;
@@ -269,11 +269,11 @@ module _ (shards shard : ℕ) (image : Contents) where
       (both (closed_told (image (Log (current marks))))
       (body_told (base_of marks).window (gates (image (Keys (current marks)))).bodies)))))
 
-  by_marks_told : (marks : List Mark) → Told (IsFitBy shards shard image marks)
+  by_marks_told : (marks : List Mark) → IsDecided (IsFitBy shards shard image marks)
   by_marks_told [] = inl tt
   by_marks_told (m ∷ marks) = store_told (m ∷ marks)
 
-  pub fit_told : Told (IsFitFor shards shard image)
+  pub fit_told : IsDecided (IsFitFor shards shard image)
   fit_told =
       told_as (λ all. record { marks = all.0; marks_are = all.1; closed = all.2.0; store = all.2.1 })
       (λ f. (f.marks, f.marks_are, (f.closed, f.store)))
@@ -281,16 +281,16 @@ module _ (shards shard : ℕ) (image : Contents) where
 
 -- ---- as a truth value
 
-pub holds : {P : Type 0} → Told P → Bool
+pub holds : {P : Type 0} → IsDecided P → Bool
 holds (inl here) = true
 holds (inr never) = false
 
-pub told_true : {P : Type 0} (t : Told P) → holds t ≡ true → P
+pub told_true : {P : Type 0} (t : IsDecided P) → holds t ≡ true → P
 unfolding holds
 told_true (inl here) is = here
 told_true (inr never) is = absurd (let both : false ≡ true = is in cc)
 
-pub true_told_by : {P : Type 0} (t : Told P) → P → holds t ≡ true
+pub true_told_by : {P : Type 0} (t : IsDecided P) → P → holds t ≡ true
 unfolding holds
 true_told_by (inl here) p = refl
 true_told_by (inr never) p = absurd (never p)

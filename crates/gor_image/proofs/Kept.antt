@@ -13,9 +13,9 @@ use Rattle.gor_model.specs.declared.event.Change.{Change}
 use Rattle.gor_model.specs.declared.start.Start.{Start}
 use Rattle.gor_marks.specs.declared.mark.Mark.{Mark}
 use Rattle.gor_image.specs.Images.{current, first_log_of}
-use Rattle.gor_image.specs.Laws.{IsBefore}
+use Rattle.gor_image.specs.Laws.{MayBeWrittenOn}
 use Rattle.gor_image.specs.DiskSteps.{Leaves}
-use Rattle.gor_image.specs.ReadFiles.{is_read, is_replaced, earlier, ReadAlike, ReadsAs, KeepsBefore}
+use Rattle.gor_image.specs.ReadFiles.{is_read, is_replaced, earlier, ReadAlike, ReadsAsGiven, KeepsBefore}
 use Rattle.gor_image.proofs.ReadFiles.{reads_hold, store}
 
 pub alike : (file : FileId) (a b : List ℕ) → a ≡ b → ReadAlike file a b
@@ -54,8 +54,8 @@ none_replaced f = unlike (is_read [] f) where
 is_itself : (n : ℕ) → nat_eq n n ≡ true
 is_itself n = grind arith
 
-pub closed_as : (shards shard : ℕ) (m : Mark) (marks : List Mark) (start : Start) (C : List Change) (given image : Contents) → IsBefore shards shard given (m ∷ marks) start C
-    → ((f : FileId) → is_read (m ∷ marks) f ≡ true → given f ≡ image f) → ReadsAs (m ∷ marks) given image
+pub closed_as : (shards shard : ℕ) (m : Mark) (marks : List Mark) (start : Start) (C : List Change) (given image : Contents) → MayBeWrittenOn shards shard given (m ∷ marks) start C
+    → ((f : FileId) → is_read (m ∷ marks) f ≡ true → given f ≡ image f) → ReadsAsGiven (m ∷ marks) given image
 closed_as shards shard m marks start C given image before same = record {
   each = λ f is_in. alike f (image f) (given f) (sym (same f is_in));
   closed = record {
@@ -74,7 +74,7 @@ unread_keeps which m more old new stays unread leaves shards shard start C all k
     (λ (late : old.moment < k). later_on late)
     (λ (early : k ≤ old.moment). all k image low early (λ f. subst (λ h. IsImage h (image f)) (leaves.past k f early) (is f)))
     (cases_lt old.moment k) where
-      later_on : old.moment < k → IsBefore shards shard image (m ∷ more) start C
+      later_on : old.moment < k → MayBeWrittenOn shards shard image (m ∷ more) start C
       later_on late =
           let given = put_back which old.seen image in
           let before = all old.moment given (omega arith) (omega arith) (back_image which old stays image (λ f none. subst (λ h. IsImage h (image f)) (leaves.others k f none late high) (is f))) in

@@ -7,7 +7,7 @@ use Rattle.std.proofs.lemmas.List.Elements.{filter-append, filter_map-append}
 use Rattle.gor_model.specs.declared.point.Point.{Point}
 use Rattle.gor_model.specs.declared.unit.Unit.{Unit as TimeUnit}
 use Rattle.gor_model.specs.declared.unit.Unit.TheVariants.{Second, Milli}
-use Rattle.gor_model.specs.Fields.{number_in, is_number, is_window}
+use Rattle.gor_model.specs.Fields.{field_in, is_number, is_window}
 use Rattle.gor_model.specs.PlainMap.{last_of}
 use Rattle.gor_model.specs.Windows.{window}
 use Rattle.gor_disk.specs.declared.disk.FileId.TheVariants.{Marks, Block}
@@ -17,7 +17,7 @@ use Rattle.gor_marks.specs.declared.mark.Mark.{Mark}
 use Rattle.gor_marks.specs.declared.mark.Mark.TheVariants.{Home, Sealed}
 use Rattle.gor_slab.specs.declared.row.SlabRow.{SlabRow}
 use Rattle.gor_slab.specs.Spelling.{row}
-use Rattle.gor_slab.specs.Reading.{Index, index, index_in, unit_in, sizes_in, rows_in, row_in, padding_in, used, is_window_of, block_of}
+use Rattle.gor_slab.specs.Reading.{Index, index, index_in, unit_in, sizes_in, rows_in, slab_row_in, padding_in, used, is_window_of, block_of}
 use Rattle.gor_image.specs.Records.{BlockRow}
 use Rattle.gor_image.specs.Blocks.{are_in, candidates, is_block_of, points_in}
 use Rattle.gor_image.specs.Recovery.{is_above}
@@ -64,23 +64,23 @@ block_within w f bytes points low is = at (is_block_of w (candidates w bytes) by
 
 -- ---- the rows of a file
 
-row_low : (last room at place : ℕ) (bytes : List ℕ) (r : SlabRow) → row_in last room at place bytes ≡ Ok r → r.window ≤ last
-unfolding row_in
+row_low : (last room at place : ℕ) (bytes : List ℕ) (r : SlabRow) → slab_row_in last room at place bytes ≡ Ok r → r.window ≤ last
+unfolding slab_row_in
 row_low last room at place bytes r is =
-    let a = unless (not (is_number (number_in w64 0 bytes))) _ _ r is in
-    let b = unless (not (is_window_of last (number_in w32 8 bytes))) _ _ r a.1 in
+    let a = unless (not (is_number (field_in w64 0 bytes))) _ _ r is in
+    let b = unless (not (is_window_of last (field_in w32 8 bytes))) _ _ r a.1 in
     let c = unless _ _ _ r b.1 in
-    let test = parts (is_window (number_in w32 8 bytes)) (nat_le (number_in w32 8 bytes) last) (not_false (is_window_of last (number_in w32 8 bytes)) b.0) in
-    let low : number_in w32 8 bytes ≤ last = truth (number_in w32 8 bytes) last test.1 in
-    let both : Ok (row (number_in w64 0 bytes) (number_in w32 8 bytes) (number_in w64 12 bytes) (number_in w32 20 bytes)) ≡ Ok r = c.1 in
-    let it : row (number_in w64 0 bytes) (number_in w32 8 bytes) (number_in w64 12 bytes) (number_in w32 20 bytes) ≡ r = cc in
+    let test = parts (is_window (field_in w32 8 bytes)) (nat_le (field_in w32 8 bytes) last) (not_false (is_window_of last (field_in w32 8 bytes)) b.0) in
+    let low : field_in w32 8 bytes ≤ last = truth (field_in w32 8 bytes) last test.1 in
+    let both : Ok (row (field_in w64 0 bytes) (field_in w32 8 bytes) (field_in w64 12 bytes) (field_in w32 20 bytes)) ≡ Ok r = c.1 in
+    let it : row (field_in w64 0 bytes) (field_in w32 8 bytes) (field_in w64 12 bytes) (field_in w32 20 bytes) ≡ r = cc in
     subst (λ (x : SlabRow). x.window ≤ last) it low
 
 rows_low : (last room at place n : ℕ) (bytes : List ℕ) (rows : List SlabRow) → rows_in last room at place n bytes ≡ Ok rows → AllByRecursion (λ (r : SlabRow). r.window ≤ last) rows
 unfolding rows_in
 rows_low last room at place zero bytes rows is = let both : Ok [] ≡ Ok rows = is in let it : [] ≡ rows = cc in subst (λ (l : List SlabRow). AllByRecursion (λ (r : SlabRow). r.window ≤ last) l) it tt
 rows_low last room at place (suc n) bytes rows is =
-    let one = bind_ok (row_in last room at place bytes) _ rows is in
+    let one = bind_ok (slab_row_in last room at place bytes) _ rows is in
     let more = bind_ok (rows_in last room (at + 24) (place + one.0.length) n (drop 24 bytes)) _ rows one.2 in
     let both : Ok (one.0 ∷ more.0) ≡ Ok rows = more.2 in
     let it : one.0 ∷ more.0 ≡ rows = cc in

@@ -8,9 +8,9 @@ use Rattle.gor_model.specs.Windows.{slots_of_a_shard}
 use Rattle.gor_keys.specs.declared.record.KeyRecord.{KeyRecord}
 use Rattle.gor_keys.specs.declared.record.KeyRecord.TheVariants.{Create, Delete, Live}
 use Rattle.gor_image.specs.Recovery.{ShardMap}
-use Rattle.gor_image.specs.Holding.{row_at, rows_of}
+use Rattle.gor_image.specs.Holding.{row_at, rows_of_map}
 use Rattle.gor_image.specs.Turns.{live_record}
-use Rattle.gor_image.specs.FinishLaws.{AreLive, AreNamesOf, IsAmong, IsOfRow}
+use Rattle.gor_image.specs.FinishLaws.{AreLive, AreNamesOf, RecordIsAmong, IsOfRow}
 use Rattle.gor_image.proofs.Opening.{Fits}
 
 -- from a slot on, each slot above the one before it
@@ -32,7 +32,7 @@ rises_first (Create number slot floor name ∷ live) are = absurd are
 rises_first (Delete number slot ∷ live) are = absurd are
 rises_first (Live uid slot floor name ∷ live) are = (omega arith, rises_behind slot live are.1)
 
-among_from : (a uid slot floor : ℕ) (name : List ℕ) (live : List KeyRecord) → RisesFrom a live → IsAmong (Live uid slot floor name) live → a ≤ slot
+among_from : (a uid slot floor : ℕ) (name : List ℕ) (live : List KeyRecord) → RisesFrom a live → RecordIsAmong (Live uid slot floor name) live → a ≤ slot
 among_from a uid slot floor name [] rise in_it = absurd in_it
 among_from a uid slot floor name (Create n s f nm ∷ live) rise in_it = absurd rise
 among_from a uid slot floor name (Delete n s ∷ live) rise in_it = absurd rise
@@ -65,18 +65,18 @@ module _ (m : ShardMap) (fits : Fits m) where
   -- what the rows from the next slot on are
   abbrev Further : ℕ → ℕ → Type 0
   Further a n = (more : List KeyRecord) → RisesFrom (a + 1) more → AllByRecursion (IsOfRow m.row) more → ((key : List ℕ) (row : Row) → m.row key ≡ Some row → row.slot < a + 1 + n)
-      → ((key : List ℕ) (row : Row) → m.row key ≡ Some row → a + 1 ≤ row.slot → IsAmong (live_record (key, row)) more) → map live_record (filter_map (row_at m) (range_with_len (a + 1) n)) ≡ more
+      → ((key : List ℕ) (row : Row) → m.row key ≡ Some row → a + 1 ≤ row.slot → RecordIsAmong (live_record (key, row)) more) → map live_record (filter_map (row_at m) (range_with_len (a + 1) n)) ≡ more
 
   rows_from : (a n : ℕ) (live : List KeyRecord) → RisesFrom a live → AllByRecursion (IsOfRow m.row) live → ((key : List ℕ) (row : Row) → m.row key ≡ Some row → row.slot < a + n)
-      → ((key : List ℕ) (row : Row) → m.row key ≡ Some row → a ≤ row.slot → IsAmong (live_record (key, row)) live) → map live_record (filter_map (row_at m) (range_with_len a n)) ≡ live
+      → ((key : List ℕ) (row : Row) → m.row key ≡ Some row → a ≤ row.slot → RecordIsAmong (live_record (key, row)) live) → map live_record (filter_map (row_at m) (range_with_len a n)) ≡ live
   rows_from a zero live rise all low complete = none_left a live rise all (λ key row is. let h = low key row is in omega (arith, h))
   rows_from a (suc n) live rise all low complete = at (m.holder a) refl (λ more. rows_from (a + 1) n more) where
     lower : (key : List ℕ) (row : Row) → m.row key ≡ Some row → row.slot < a + 1 + n
     lower key row is = let h = low key row is in omega (arith, h)
 
     -- the head of the records is the row that holds the slot
-    head : (k : List ℕ) (r : Row) → m.row k ≡ Some r → r.slot ≡ a → (l : List KeyRecord) → RisesFrom a l → AllByRecursion (IsOfRow m.row) l → IsAmong (live_record (k, r)) l
-        → ((key : List ℕ) (row : Row) → m.row key ≡ Some row → a ≤ row.slot → IsAmong (live_record (key, row)) l)
+    head : (k : List ℕ) (r : Row) → m.row k ≡ Some r → r.slot ≡ a → (l : List KeyRecord) → RisesFrom a l → AllByRecursion (IsOfRow m.row) l → RecordIsAmong (live_record (k, r)) l
+        → ((key : List ℕ) (row : Row) → m.row key ≡ Some row → a ≤ row.slot → RecordIsAmong (live_record (key, row)) l)
         → Further a n → live_record (k, r) ∷ map live_record (filter_map (row_at m) (range_with_len (a + 1) n)) ≡ l
     head k r is own [] rise' all' in_it complete' further = absurd in_it
     head k r is own (Create x s f nm ∷ l) rise' all' in_it complete' further = absurd rise'
@@ -88,7 +88,7 @@ module _ (m : ShardMap) (fits : Fits m) where
         let here : s ≡ a = sym slot ∙ own in
         ap (λ x. x ∷ map live_record (filter_map (row_at m) (range_with_len (a + 1) n))) same
         ∙ ap (λ rest. Live u s f nm ∷ rest) (further l (subst (λ b. RisesFrom (b + 1) l) here rise'.1) all'.1 lower (λ key row there high. rest key row (complete' key row there (omega (arith, high))) high here)) where
-          rest : (key : List ℕ) (row : Row) → IsAmong (live_record (key, row)) (Live u s f nm ∷ l) → a + 1 ≤ row.slot → s ≡ a → IsAmong (live_record (key, row)) l
+          rest : (key : List ℕ) (row : Row) → RecordIsAmong (live_record (key, row)) (Live u s f nm ∷ l) → a + 1 ≤ row.slot → s ≡ a → RecordIsAmong (live_record (key, row)) l
           rest key row (inl same') high here = absurd (let it : row.slot ≡ s = cc in omega (arith, it, high, here))
           rest key row (inr later) high here = later
 
@@ -104,6 +104,6 @@ module _ (m : ShardMap) (fits : Fits m) where
     at None e further = rw e (further live (free_from a live rise all e) all lower (λ key row is high. complete key row is (omega (arith, high))))
     at (Some k) e further = by_row k e (m.row k) refl further
 
-  pub live_rows : (live : List KeyRecord) → ((key : List ℕ) (row : Row) → m.row key ≡ Some row → row.slot < slots_of_a_shard) → AreLive None live → AreNamesOf m.row live → map live_record (rows_of m) ≡ live
-  unfolding rows_of
+  pub live_rows : (live : List KeyRecord) → ((key : List ℕ) (row : Row) → m.row key ≡ Some row → row.slot < slots_of_a_shard) → AreLive None live → AreNamesOf m.row live → map live_record (rows_of_map m) ≡ live
+  unfolding rows_of_map
   live_rows live low are names = rows_from 0 slots_of_a_shard live (rises_first live are) names.each (λ key row is. low key row is) (λ key row is high. names.all key row is)

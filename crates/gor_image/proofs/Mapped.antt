@@ -6,7 +6,7 @@ use Rattle.gor_model.specs.Windows.{slots_of_a_shard}
 use Rattle.gor_model.specs.declared.start.Row.{Row}
 use Rattle.gor_model.proofs.Lists.{all_filter}
 use Rattle.gor_image.specs.Records.{Placed, Files}
-use Rattle.gor_image.specs.Recovery.{Names, WrongName, ShardMap, recovered, names_of, number_in, counted_keys, next_of, counts}
+use Rattle.gor_image.specs.Recovery.{Names, WrongName, ShardMap, recovered, names_of, change_number_in, counted_keys, next_of, counts}
 use Rattle.gor_image.specs.Holding.{RecoverTo, RiseAbove, BatchesRise, IsKeyUidBelow}
 use Rattle.gor_disk.specs.declared.disk.FileId.TheVariants.{Keys}
 use Rattle.gor_image.specs.declared.fault.ImageFault.{ImageFault}
@@ -28,7 +28,7 @@ pub record IsMap (files : Files) (m : ShardMap) : Type 0 where
   pub recover : RecoverTo files names
   pub is : recovered files names ≡ m
 
-pub is_map : (list : ℕ) (files : Files) (m : ShardMap) → RiseAbove files.base.upto (filter_map (λ r. number_in r.it) files.keys) → BatchesRise 0 files.batches
+pub is_map : (list : ℕ) (files : Files) (m : ShardMap) → RiseAbove files.base.upto (filter_map (λ r. change_number_in r.it) files.keys) → BatchesRise 0 files.batches
     → AllByRecursion (λ r. IsKeyUidBelow (next_of files) r.it) files.keys → ((names : Names) → names_of files ≡ Ok names → (k : List ℕ) (r : Row) → names.row k ≡ Some r → r.slot < slots_of_a_shard)
     → map_of_files list files ≡ Ok m → IsMap files m
 is_map list files m numbers batches uids low is = by_names (names_of files) refl is where

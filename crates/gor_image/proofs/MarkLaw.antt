@@ -13,7 +13,7 @@ use Rattle.gor_model.specs.Windows.{window, window_end, is_kept, kept}
 use Rattle.gor_log.specs.declared.record.LogRecord.{LogRecord}
 use Rattle.gor_log.specs.declared.record.LogRecord.TheVariants.{Put, Floor, Seal}
 use Rattle.gor_image.specs.Records.{BlockRow, Base}
-use Rattle.gor_image.specs.Recovery.{is_above, block_points, put_point, points_of}
+use Rattle.gor_image.specs.Recovery.{is_above, block_points, put_point, points_of_series}
 use Rattle.gor_image.specs.Turns.{is_up_to, is_behind, WindowRises, HasNoneBehind, is_live, IsInFile, IsCopied}
 use Rattle.gor_image.proofs.Core.{Rises}
 
@@ -119,8 +119,8 @@ suffix_rises [] ys rise = rise
 suffix_rises (x ∷ xs) ys rise = suffix_rises xs ys rise.1
 
 module _ (base : Base) (w upto uid : ℕ) (blocks fresh : List BlockRow) (dropped remaining : List LogRecord) where
-  pub turned_points : WindowRises base.window w → AllByRecursion IsInFile blocks → AllByRecursion (HasNoneBehind w) dropped → IsCopied base w uid fresh (dropped ++ remaining) → Rises (points_of base blocks (dropped ++ remaining) uid)
-      → kept (window_end w) (points_of (record { window = Some w; upto = upto }) (filter (is_live w) blocks ++ fresh) remaining uid) ≡ kept (window_end w) (points_of base blocks (dropped ++ remaining) uid)
+  pub turned_points : WindowRises base.window w → AllByRecursion IsInFile blocks → AllByRecursion (HasNoneBehind w) dropped → IsCopied base w uid fresh (dropped ++ remaining) → Rises (points_of_series base blocks (dropped ++ remaining) uid)
+      → kept (window_end w) (points_of_series (record { window = Some w; upto = upto }) (filter (is_live w) blocks ++ fresh) remaining uid) ≡ kept (window_end w) (points_of_series base blocks (dropped ++ remaining) uid)
   turned_points rises in_file none copied rise =
       ap (λ (l : List Point). kept (window_end w) (l ++ filter_map (put_point (record { window = Some w; upto = upto }) uid) remaining)) (flat_map-append (block_points uid) (filter (is_live w) blocks) fresh)
       ∙ filter-append (is_kept (window_end w)) (flat_map (block_points uid) (filter (is_live w) blocks) ++ flat_map (block_points uid) fresh) (filter_map (put_point (record { window = Some w; upto = upto }) uid) remaining)

@@ -5,8 +5,8 @@ use Rattle.gor_model.specs.declared.point.Point.{Point}
 use Rattle.gor_model.specs.declared.unit.Unit.{Unit as TimeUnit}
 use Rattle.gor_model.specs.declared.unit.Unit.TheVariants.{Second}
 use Rattle.gor_slab.specs.declared.row.SlabRow.{SlabRow}
-use Rattle.gor_slab.specs.Spelling.{Entry, rows_of, spelling}
-use Rattle.gor_slab.specs.Reading.{Index, index, index_in, unit_in, sizes_in, rows_in, padding_in, used, block_of, entry_of, entries_of}
+use Rattle.gor_slab.specs.Spelling.{BlockEntry, slab_rows_of, slab_spelling}
+use Rattle.gor_slab.specs.Reading.{Index, index, index_in, unit_in, sizes_in, rows_in, padding_in, used, block_of, block_entry_of, entries_of}
 use Rattle.gor_slab.proofs.Files.{file_again}
 use Rattle.gor_block.specs.PointBlock.{PointBlock}
 use Rattle.gor_image.specs.Records.{BlockRow}
@@ -32,20 +32,20 @@ pub record Made (w at : ℕ) (bytes : List ℕ) (rows : List SlabRow) (blocks : 
   pub read : rows_read w at bytes rows ≡ Ok made
   pub are : AreRowsOf w made blocks
 
-rows_found : (w at : ℕ) (bytes : List ℕ) (rows : List SlabRow) (es : List Entry) (blocks : List (ℕ × PointBlock)) → entries_of bytes rows ≡ es → AreEntriesOf es blocks → Made w at bytes rows blocks
+rows_found : (w at : ℕ) (bytes : List ℕ) (rows : List SlabRow) (es : List BlockEntry) (blocks : List (ℕ × PointBlock)) → entries_of bytes rows ≡ es → AreEntriesOf es blocks → Made w at bytes rows blocks
 rows_found w at bytes [] [] [] is are = record { made = []; read = refl; are = tt }
 rows_found w at bytes [] [] (b ∷ blocks) is are = absurd are
 rows_found w at bytes [] (e ∷ es) blocks is are = absurd (let both : [] ≡ e ∷ es = is in cc)
-rows_found w at bytes (r ∷ rows) [] blocks is are = absurd (let both : entry_of bytes r ∷ entries_of bytes rows ≡ [] = is in cc)
+rows_found w at bytes (r ∷ rows) [] blocks is are = absurd (let both : block_entry_of bytes r ∷ entries_of bytes rows ≡ [] = is in cc)
 rows_found w at bytes (r ∷ rows) (e ∷ es) [] is are = absurd are
 rows_found w at bytes (r ∷ rows) (e ∷ es) (b ∷ blocks) is are =
-    let both : entry_of bytes r ∷ entries_of bytes rows ≡ e ∷ es = is in
-    let one : entry_of bytes r ≡ e = cc in
+    let both : block_entry_of bytes r ∷ entries_of bytes rows ≡ e ∷ es = is in
+    let one : block_entry_of bytes r ≡ e = cc in
     let others : entries_of bytes rows ≡ es = cc in
     let rest = rows_found w (at + 24) bytes rows es blocks others are.5 in
-    let uid : r.uid ≡ b.0 = ap (λ (x : Entry). x.uid) one ∙ are.0 in
-    let window : r.window ≡ b.1.window = ap (λ (x : Entry). x.window) one ∙ are.1 in
-    let block : block_of bytes r ≡ e.block = ap (λ (x : Entry). x.block) one in
+    let uid : r.uid ≡ b.0 = ap (λ (x : BlockEntry). x.uid) one ∙ are.0 in
+    let window : r.window ≡ b.1.window = ap (λ (x : BlockEntry). x.window) one ∙ are.1 in
+    let block : block_of bytes r ≡ e.block = ap (λ (x : BlockEntry). x.block) one in
     let found : points_in r.window (block_of bytes r) ≡ Some b.1.points =
     ap (λ v. points_in v (block_of bytes r)) window ∙ ap (points_in b.1.window) block ∙ block_found b.1 e.block are.3 are.2 are.4 in
     record {
@@ -59,7 +59,7 @@ pub block_file_is_read : BlockFileIsRead
 unfolding rows_at
 block_file_is_read w es blocks limits are =
     let again = file_again w Second es limits in
-    let bytes = spelling Second es in
-    let unit = unit_read w Second bytes (rows_of 0 es) again.read in
-    let found = rows_found w (first_row_at bytes (rows_of 0 es)) bytes (rows_of 0 es) es blocks again.entries are in
+    let bytes = slab_spelling Second es in
+    let unit = unit_read w Second bytes (slab_rows_of 0 es) again.read in
+    let found = rows_found w (first_row_at bytes (slab_rows_of 0 es)) bytes (slab_rows_of 0 es) es blocks again.entries are in
     record { rows = found.made; read = rw (unit, again.read) found.read; are = found.are }

@@ -15,14 +15,14 @@ use Rattle.gor_gate.specs.Gates.{gates}
 use Rattle.gor_marks.specs.declared.mark.Mark.{Mark}
 use Rattle.gor_marks.specs.declared.mark.Mark.TheVariants.{Sealed}
 use Rattle.gor_keys.specs.declared.record.KeyRecord.{KeyRecord}
-use Rattle.gor_image.specs.Records.{Batch, Base, BlockRow, Files}
-use Rattle.gor_image.specs.Recovery.{Names, filled, is_above, log_records, names_of, next_of, points_of, recovered}
+use Rattle.gor_image.specs.Records.{BatchInLog, Base, BlockRow, Files}
+use Rattle.gor_image.specs.Recovery.{Names, filled, is_above, records_of_batches, names_of, next_of, points_of_series, recovered}
 use Rattle.gor_image.specs.Holding.{HoldsState, IsFit, RecoverTo, Stand}
 use Rattle.gor_image.specs.Images.{base_of, current, first_log_of, live_windows, or_zero, read_blocks, read_files, read_gated, read_keys, read_logs, remaining_logs, sealed_first_log, sealed_upto, sealed_window, top_of}
 use Rattle.gor_image.specs.Fit.{IsFitBy, IsFitStore}
 use Rattle.gor_image.specs.Appends.{ImageStands, files_as, keys_from}
-use Rattle.gor_image.specs.MarkLists.{MayFollow}
-use Rattle.gor_image.specs.Laws.{IsBefore}
+use Rattle.gor_image.specs.MarkLists.{MarkMayFollow}
+use Rattle.gor_image.specs.Laws.{MayBeWrittenOn}
 use Rattle.gor_image.specs.Turns.{HasNew, HasNoneBehind, IsInFile, SplitLogs, WindowRises, is_live}
 use Rattle.gor_image.specs.FinishLaws.{AreCopiesOf, AreNamesOf, AreOldBlocks, HasFinished, IsNotAbove, IsOfRow, IsOwn, IsUpTo, LiveRecordsAreNames, NewFilesAreThere, ReadsLive, is_between}
 use Rattle.gor_image.proofs.AnyMarks.{reads_as}
@@ -43,7 +43,7 @@ last_push : {X : Type 0} (xs : List X) (x : X) → last_of (xs ++ x ∷ []) ≡ 
 last_push [] x = refl
 last_push {X} (y ∷ xs) x = ap (λ (o : Option X). Some (unwrap_or o y)) (last_push xs x)
 
-module _ (marks : List Mark) (w k u f : ℕ) (may : MayFollow marks (Sealed w k u f)) where
+module _ (marks : List Mark) (w k u f : ℕ) (may : MarkMayFollow marks (Sealed w k u f)) where
   base_push : base_of (marks ++ Sealed w k u f ∷ []) ≡ record { window = Some w; upto = u }
   base_push =
       let window : last_of (filter_map sealed_window (marks ++ Sealed w k u f ∷ [])) ≡ Some w = ap last_of (filter_map-append sealed_window marks (Sealed w k u f ∷ [])) ∙ last_push (filter_map sealed_window marks) w in
@@ -95,7 +95,7 @@ all_in_range P a (suc n) each = (each a (omega arith) (omega arith), all_in_rang
 
 -- ---- the logs before a mark, and with it
 
-module _ (marks : List Mark) (w k u f : ℕ) (may : MayFollow marks (Sealed w k u f)) where
+module _ (marks : List Mark) (w k u f : ℕ) (may : MarkMayFollow marks (Sealed w k u f)) where
   pub logs_split : remaining_logs marks ≡ range_with_len (first_log_of marks) (f - first_log_of marks) ++ range_with_len f (current marks + 1 - f)
   logs_split =
       let first = (numbers marks w k u f may).first in let last = (numbers marks w k u f may).last in let number = (numbers marks w k u f may).list in
@@ -122,7 +122,7 @@ pub record Held (files : Files) (names : Names) (start : Start) (C : List Change
   pub next : next_of files ≤ next_change start C
   pub low : (k : List ℕ) (r : Row) → (recovered files names).row k ≡ Some r → r.slot < slots_of_a_shard
 
-module _ (shards shard : ℕ) (image : Contents) (m : Mark) (marks : List Mark) (start : Start) (C : List Change) (before : IsBefore shards shard image (m ∷ marks) start C) where
+module _ (shards shard : ℕ) (image : Contents) (m : Mark) (marks : List Mark) (start : Start) (C : List Change) (before : MayBeWrittenOn shards shard image (m ∷ marks) start C) where
   store : IsFitStore shards shard image (m ∷ marks)
   store =
       let both : Ok before.fit.fit.marks ≡ Ok (m ∷ marks) = sym before.fit.fit.marks_are ∙ before.marks_are in
@@ -175,7 +175,7 @@ live_names shards shard image m marks start C files names live before files_are 
 -- ---- the new files
 
 module _ (shards shard : ℕ) (image : Contents) (m : Mark) (marks : List Mark) (w k upto first_log : ℕ) (start : Start) (C : List Change)
-    (before : IsBefore shards shard image (m ∷ marks) start C) (may : MayFollow (m ∷ marks) (Sealed w k upto first_log)) (taken : next_change start C ≤ upto + 1)
+    (before : MayBeWrittenOn shards shard image (m ∷ marks) start C) (may : MarkMayFollow (m ∷ marks) (Sealed w k upto first_log)) (taken : next_change start C ≤ upto + 1)
     (done : HasFinished image (m ∷ marks) w k first_log start C) where
   old_store : IsFitStore shards shard image (m ∷ marks)
   old_store = store shards shard image m marks start C before
@@ -217,10 +217,10 @@ module _ (shards shard : ℕ) (image : Contents) (m : Mark) (marks : List Mark) 
   same_batches : done.batches ≡ was.batches
   same_batches = let both : Ok done.batches ≡ Ok was.batches = sym done.logs ∙ was.logs_read in cc
 
-  none_behind : AllByRecursion (HasNoneBehind w) (log_records splits.dropped)
+  none_behind : AllByRecursion (HasNoneBehind w) (records_of_batches splits.dropped)
   none_behind = low_tops image w front back was.batches splits.dropped all_read splits.earlier_read
       (all_in_range (λ log. IsUpTo w (top_of log was.batches)) (first_log_of (m ∷ marks)) (first_log - first_log_of (m ∷ marks))
-      (λ l low high. subst (λ (bs : List Batch). IsUpTo w (top_of l bs)) same_batches (done.tops l low (let first = n.first in omega (arith, high, first)))))
+      (λ l low high. subst (λ (bs : List BatchInLog). IsUpTo w (top_of l bs)) same_batches (done.tops l low (let first = n.first in omega (arith, high, first)))))
 
   -- the key list
   live_read : ReadsLive image k upto done.live
@@ -254,29 +254,29 @@ module _ (shards shard : ℕ) (image : Contents) (m : Mark) (marks : List Mark) 
             (subst (λ (bs : List BlockRow). AllByRecursion (λ (row : BlockRow). IsNotAbove (base_of (m ∷ marks)).window row.file) bs) old_blocks r.1),
       )
 
-  row_of : (key : List ℕ) (x : Row) → old_store.names.row key ≡ Some x → kept_row_after start C key ≡ Some (filled old_store.files.base old_store.files.blocks (log_records old_store.files.batches) x)
-  row_of key x is = sym (h.holds.rows key) ∙ ap (option_map (filled old_store.files.base old_store.files.blocks (log_records old_store.files.batches))) is
+  row_of : (key : List ℕ) (x : Row) → old_store.names.row key ≡ Some x → kept_row_after start C key ≡ Some (filled old_store.files.base old_store.files.blocks (records_of_batches old_store.files.batches) x)
+  row_of key x is = sym (h.holds.rows key) ∙ ap (option_map (filled old_store.files.base old_store.files.blocks (records_of_batches old_store.files.batches))) is
 
   copies : (key : List ℕ) (x : Row) → old_store.names.row key ≡ Some x → AreCopiesOf old_store.files w x.uid done.fresh
   copies key x is =
       let there = row_of key x is in
       let floor = done.floors key _ there in
       done.copies key _ there
-      ∙ ap (λ (b : Base). filter (is_between b.window w) (filled old_store.files.base old_store.files.blocks (log_records old_store.files.batches) x).points) (sym old_base)
-      ∙ ap (λ f. filter (is_between old_store.files.base.window w) (kept f (points_of old_store.files.base old_store.files.blocks (log_records old_store.files.batches) x.uid))) floor
+      ∙ ap (λ (b : Base). filter (is_between b.window w) (filled old_store.files.base old_store.files.blocks (records_of_batches old_store.files.batches) x).points) (sym old_base)
+      ∙ ap (λ f. filter (is_between old_store.files.base.window w) (kept f (points_of_series old_store.files.base old_store.files.blocks (records_of_batches old_store.files.batches) x.uid))) floor
 
-  log_is : log_records old_store.files.batches ≡ log_records splits.dropped ++ log_records splits.remaining
-  log_is = ap log_records (sym old_batches ∙ splits.is) ∙ flat_map-append (λ (b : Batch). map (λ r. r.it) b.records) splits.dropped splits.remaining
+  log_is : records_of_batches old_store.files.batches ≡ records_of_batches splits.dropped ++ records_of_batches splits.remaining
+  log_is = ap records_of_batches (sym old_batches ∙ splits.is) ∙ flat_map-append (λ (b : BatchInLog). map (λ r. r.it) b.records) splits.dropped splits.remaining
 
   rises : WindowRises old_store.files.base.window w
   rises = subst (λ (b : Base). WindowRises b.window w) (sym old_base) (window_rises (base_of (m ∷ marks)).window w n.above)
 
   own_uid : (b : BlockRow) → IsOwn start C b → b.uid < next_of old_store.files
   own_uid b own = by (old_store.names.row own.key) refl (h.holds.rows own.key ∙ own.there) where
-    by : (o : Option Row) → old_store.names.row own.key ≡ o → option_map (filled old_store.files.base old_store.files.blocks (log_records old_store.files.batches)) o ≡ Some own.row → b.uid < next_of old_store.files
+    by : (o : Option Row) → old_store.names.row own.key ≡ o → option_map (filled old_store.files.base old_store.files.blocks (records_of_batches old_store.files.batches)) o ≡ Some own.row → b.uid < next_of old_store.files
     by None e is = absurd (let both : None ≡ Some own.row = is in cc)
     by (Some x) e is =
-        let it : filled old_store.files.base old_store.files.blocks (log_records old_store.files.batches) x ≡ own.row = cc in
+        let it : filled old_store.files.base old_store.files.blocks (records_of_batches old_store.files.batches) x ≡ own.row = cc in
         let low = (read old_store.files old_store.names 0 h.recover h.fit h.low).below own.key x e in
         let same : x.uid ≡ own.row.uid = ap (λ (r : Row). r.uid) it in
         let uid = own.uid in
@@ -304,7 +304,7 @@ module _ (shards shard : ℕ) (image : Contents) (m : Mark) (marks : List Mark) 
       shard_at_end = h.holds.floor ∙ done.floor;
       rows_at_end = λ key r is. done.floors key r (sym (h.holds.rows key) ∙ is);
       copied = λ key x is. seals_are_copied old_store.files w x.uid done.fresh old_rows (copies key x is);
-      rising = λ key x is. series_rise old_store.files w upto x.uid done.fresh (log_records splits.dropped) (log_records splits.remaining) old_rows (copies key x is) rises log_is none_behind (h.recover.rising key x is);
+      rising = λ key x is. series_rise old_store.files w upto x.uid done.fresh (records_of_batches splits.dropped) (records_of_batches splits.remaining) old_rows (copies key x is) rises log_is none_behind (h.recover.rising key x is);
       fresh_uids = all_weaker (IsOwn start C) (λ (b : BlockRow). b.uid < next_of old_store.files) done.fresh own_uid done.own;
       in_file = old_rows.0;
     };

@@ -15,9 +15,9 @@ use Rattle.gor_model.proofs.Lists.{all_mapped}
 use Rattle.gor_image.specs.declared.fault.ImageFault.TheVariants as fault
 use Rattle.gor_image.specs.Recovery.{ShardMap}
 use Rattle.gor_image.specs.Grammars.{and_then}
-use Rattle.gor_image.specs.Holding.{row_at, rows_of}
+use Rattle.gor_image.specs.Holding.{row_at, rows_of_map}
 use Rattle.gor_image.specs.Images.{opens_to, with_limits, slots_needed}
-use Rattle.gor_image.specs.Laws.{OpensAgain}
+use Rattle.gor_image.specs.Laws.{HeldOpensAgain}
 
 earlier_fit : (start : Start) (later C : List Change) → ChangesFit start (later ++ C) → ChangesFit start C
 earlier_fit start [] C fit = fit
@@ -55,7 +55,7 @@ module _ (start : Start) (m : ShardMap) (C : List Change) (low : AreBelow start 
       let below = low.held r.0 r.1.slot at in omega (arith, below)
 
   needs : slots_needed m ≤ start.slots
-  unfolding rows_of
+  unfolding rows_of_map
   needs = at_most start.slots 0 (map (λ r. r.1.slot + 1) (filter_map (row_at m) (range_with_len 0 slots_of_a_shard))) (omega arith)
       (all_mapped (λ k. k ≤ start.slots) (λ r. r.1.slot + 1) (filter_map (row_at m) (range_with_len 0 slots_of_a_shard))
       (all_filtered (λ r. r.1.slot + 1 ≤ start.slots) (row_at m) slot_low (range_with_len 0 slots_of_a_shard)))
@@ -69,7 +69,7 @@ limits slots m enough = by (nat_lt (2 ^ 62) m.next) refl where
   by true is = inr (rw room (rw is refl))
   by false is = inl (rw room (rw is refl))
 
-pub opens_again : OpensAgain
+pub opens_again : HeldOpensAgain
 opens_again shards shard image start H C is legal first h = along (limits start.slots h.map (needs start h.map C low h.state.rows)) where
   fit : ChangesFit start C
   fit = earlier_fit start first.later C (subst (ChangesFit start) first.is (legal_fits start H legal))

@@ -13,8 +13,8 @@ use Rattle.gor_model.specs.PlainMap.{with_kept, kept_row_after, grown_row}
 use Rattle.gor_model.proofs.SlotLaws.{bytes_tell}
 use Rattle.gor_model.proofs.Lists.{all_weaker, all_filter}
 use Rattle.gor_image.specs.Records.{Files}
-use Rattle.gor_image.specs.Recovery.{Names, ShardMap, recovered, filled, next_of, counted_keys, log_records, counts}
-use Rattle.gor_image.specs.Holding.{RecoverTo, IsFit, Stand, row_at, rows_of, start_of, IsKeyUidBelow}
+use Rattle.gor_image.specs.Recovery.{Names, ShardMap, recovered, filled, next_of, counted_keys, records_of_batches, counts}
+use Rattle.gor_image.specs.Holding.{RecoverTo, IsFit, Stand, row_at, rows_of_map, start_of_map, IsKeyUidBelow}
 use Rattle.gor_image.proofs.Filled.{kept_kept}
 use Rattle.gor_image.proofs.Reading.{AreRead, are_read}
 
@@ -104,12 +104,12 @@ module _ (m : ShardMap) (fits : Fits m) where
     at None e rest = further rest (λ r is_r same. let own = fits.holds k r is_r in let both : None ≡ Some k = sym e ∙ (sym (ap m.holder same) ∙ own) in absurd (cc))
     at (Some l) e rest = by_row l e (m.row l) refl rest
 
-pub rows_apart : (m : ShardMap) → Fits m → AreApart (rows_of m)
-unfolding rows_of
+pub rows_apart : (m : ShardMap) → Fits m → AreApart (rows_of_map m)
+unfolding rows_of_map
 rows_apart m fits = apart_from m fits 0 slots_of_a_shard
 
-pub rows_found : (m : ShardMap) → Fits m → ((k : List ℕ) (r : Row) → m.row k ≡ Some r → r.slot < slots_of_a_shard) → (k : List ℕ) → row_in (rows_of m) k ≡ m.row k
-unfolding rows_of
+pub rows_found : (m : ShardMap) → Fits m → ((k : List ℕ) (r : Row) → m.row k ≡ Some r → r.slot < slots_of_a_shard) → (k : List ℕ) → row_in (rows_of_map m) k ≡ m.row k
+unfolding rows_of_map
 rows_found m fits low k = found m fits 0 slots_of_a_shard k (at (m.row k) refl) where
   at : (o : Option Row) → m.row k ≡ o → MatchOption o ⊤ (λ r. (0 ≤ r.slot) × (r.slot < 0 + slots_of_a_shard))
   at None e = tt
@@ -124,29 +124,29 @@ module _ (files : Files) (names : Names) (slots : ℕ) (recover : RecoverTo file
 
   pub fits : Fits (recovered files names)
   fits = record { held = held; holds = holds } where
-    slot_same : (o : Option Row) → option_map (λ (r : Row). r.slot) (option_map (filled files.base files.blocks (log_records files.batches)) o) ≡ option_map (λ (r : Row). r.slot) o
+    slot_same : (o : Option Row) → option_map (λ (r : Row). r.slot) (option_map (filled files.base files.blocks (records_of_batches files.batches)) o) ≡ option_map (λ (r : Row). r.slot) o
     slot_same None = refl
     slot_same (Some r) = refl
 
-    held : (s : ℕ) (k : List ℕ) → names.holder s ≡ Some k → option_map (λ (r : Row). r.slot) (option_map (filled files.base files.blocks (log_records files.batches)) (names.row k)) ≡ Some s
+    held : (s : ℕ) (k : List ℕ) → names.holder s ≡ Some k → option_map (λ (r : Row). r.slot) (option_map (filled files.base files.blocks (records_of_batches files.batches)) (names.row k)) ≡ Some s
     held s k is = slot_same (names.row k) ∙ read.held s k is
 
-    holds : (k : List ℕ) (r : Row) → option_map (filled files.base files.blocks (log_records files.batches)) (names.row k) ≡ Some r → names.holder r.slot ≡ Some k
+    holds : (k : List ℕ) (r : Row) → option_map (filled files.base files.blocks (records_of_batches files.batches)) (names.row k) ≡ Some r → names.holder r.slot ≡ Some k
     holds k r is = at (names.row k) refl is where
-      at : (o : Option Row) → names.row k ≡ o → option_map (filled files.base files.blocks (log_records files.batches)) o ≡ Some r → names.holder r.slot ≡ Some k
+      at : (o : Option Row) → names.row k ≡ o → option_map (filled files.base files.blocks (records_of_batches files.batches)) o ≡ Some r → names.holder r.slot ≡ Some k
       at None e is' = absurd (let both : None ≡ Some r = is' in cc)
-      at (Some x) e is' = let it : filled files.base files.blocks (log_records files.batches) x ≡ r = cc in
+      at (Some x) e is' = let it : filled files.base files.blocks (records_of_batches files.batches) x ≡ r = cc in
           subst (λ (y : Row). names.holder y.slot ≡ Some k) it (read.holds k x e)
 
-  start_row : (k : List ℕ) → (recovered files names).row k ≡ kept_row_after (start_of slots (recovered files names)) [] k
+  start_row : (k : List ℕ) → (recovered files names).row k ≡ kept_row_after (start_of_map slots (recovered files names)) [] k
   start_row k = sym (ap (λ (o : Option Row). option_map with_kept (option_map (grown_row [] []) (option_or o None))) (rows_found (recovered files names) fits low k) ∙ at (names.row k)) where
-    at : (o : Option Row) → option_map with_kept (option_map (grown_row [] []) (option_or (option_map (filled files.base files.blocks (log_records files.batches)) o) None)) ≡ option_map (filled files.base files.blocks (log_records files.batches)) o
+    at : (o : Option Row) → option_map with_kept (option_map (grown_row [] []) (option_or (option_map (filled files.base files.blocks (records_of_batches files.batches)) o) None)) ≡ option_map (filled files.base files.blocks (records_of_batches files.batches)) o
     at None = refl
-    at (Some x) = ap (λ points. Some (record (filled files.base files.blocks (log_records files.batches) x) { points = points }))
-        (ap (kept (filled files.base files.blocks (log_records files.batches) x).floor) (append-nil (filled files.base files.blocks (log_records files.batches) x).points)
-        ∙ kept_kept (filled files.base files.blocks (log_records files.batches) x).floor (filled files.base files.blocks (log_records files.batches) x).floor _ (omega arith))
+    at (Some x) = ap (λ points. Some (record (filled files.base files.blocks (records_of_batches files.batches) x) { points = points }))
+        (ap (kept (filled files.base files.blocks (records_of_batches files.batches) x).floor) (append-nil (filled files.base files.blocks (records_of_batches files.batches) x).points)
+        ∙ kept_kept (filled files.base files.blocks (records_of_batches files.batches) x).floor (filled files.base files.blocks (records_of_batches files.batches) x).floor _ (omega arith))
 
-  pub opening_law : Stand files (start_of slots (recovered files names)) []
+  pub opening_law : Stand files (start_of_map slots (recovered files names)) []
   opening_law = record {
     names = names;
     recover = recover;
@@ -156,8 +156,8 @@ module _ (files : Files) (names : Names) (slots : ℕ) (recover : RecoverTo file
   }
 
 -- each of the rows is one of the map
-pub rows_are : (m : ShardMap) → AllByRecursion (λ r. m.row r.0 ≡ Some r.1) (rows_of m)
-unfolding rows_of
+pub rows_are : (m : ShardMap) → AllByRecursion (λ r. m.row r.0 ≡ Some r.1) (rows_of_map m)
+unfolding rows_of_map
 rows_are m = each 0 slots_of_a_shard where
   each : (a n : ℕ) → AllByRecursion (λ r. m.row r.0 ≡ Some r.1) (filter_map (row_at m) (range_with_len a n))
   each a zero = tt

@@ -8,7 +8,7 @@ use Rattle.gor_gate.specs.Gates.{gates}
 use Rattle.gor_marks.specs.declared.mark.Mark.{Mark}
 use Rattle.gor_image.specs.declared.fault.ImageFault.{ImageFault}
 use Rattle.gor_image.specs.Recovery.{ShardMap, recovered}
-use Rattle.gor_image.specs.Holding.{HoldsState, row_at, rows_of, start_of}
+use Rattle.gor_image.specs.Holding.{HoldsState, row_at, rows_of_map, start_of_map}
 use Rattle.gor_image.specs.Grammars.{and_then}
 use Rattle.gor_image.specs.Images.{marks_of, map_of_marks, fresh_map}
 use Rattle.gor_image.specs.Fit.{IsFitStore, IsFitBy}
@@ -19,7 +19,7 @@ pub begins_itself : BeginsItself
 begins_itself shards shard image m marks map slots fit marks_are is = record {
   fit = record {
     fit = fit;
-    holds = record { map = map; is = is; state = subst (λ (p : ShardMap). HoldsState p (start_of slots p) []) (sym same) (start_held shards shard image m marks marks_are store slots) };
+    holds = record { map = map; is = is; state = subst (λ (p : ShardMap). HoldsState p (start_of_map slots p) []) (sym same) (start_held shards shard image m marks marks_are store slots) };
   };
   marks_are = marks_are;
   next = omega arith;
@@ -39,12 +39,12 @@ no_rows : (slots : List ℕ) → filter_map (row_at fresh_map) slots ≡ []
 no_rows [] = refl
 no_rows (s ∷ slots) = no_rows slots
 
-pub fresh_rows : rows_of fresh_map ≡ []
-unfolding rows_of
+pub fresh_rows : rows_of_map fresh_map ≡ []
+unfolding rows_of_map
 fresh_rows = no_rows (range_with_len 0 slots_of_a_shard)
 
-fresh_state : (slots : ℕ) → HoldsState fresh_map (start_of slots fresh_map) []
-fresh_state slots = record { floor = refl; rows = λ key. none (rows_of fresh_map) fresh_rows key } where
+fresh_state : (slots : ℕ) → HoldsState fresh_map (start_of_map slots fresh_map) []
+fresh_state slots = record { floor = refl; rows = λ key. none (rows_of_map fresh_map) fresh_rows key } where
   none : (rows : List _) → rows ≡ [] → (key : List ℕ) → None ≡ kept_row_after (record { slots = slots; floor = 0; next = 1; rows = rows; shards = 0; shard = 0; since = 0; faults = 0; fit = false }) [] key
   none [] e key = refl
   none (r ∷ rows) e key = absurd (cc)

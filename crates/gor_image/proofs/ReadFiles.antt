@@ -11,22 +11,22 @@ use Rattle.gor_model.specs.declared.event.Change.{Change}
 use Rattle.gor_model.specs.declared.start.Start.{Start}
 use Rattle.gor_marks.specs.declared.mark.Mark.{Mark}
 use Rattle.gor_image.specs.declared.fault.ImageFault.{ImageFault}
-use Rattle.gor_image.specs.Records.{Batch, BlockRow, Files}
+use Rattle.gor_image.specs.Records.{BatchInLog, BlockRow, Files}
 use Rattle.gor_image.specs.Grammars.{and_then, rows_at}
 use Rattle.gor_image.specs.Images.{in_file, read_gated, KeysRead, read_keys, read_batch, read_logs, read_blocks, read_mark, read_files, marks_of, map_of, map_of_marks, map_of_files, current, base_of, first_log_of, live_windows, remaining_logs, same_home}
 use Rattle.gor_image.specs.Appends.{keys_from, files_as}
-use Rattle.gor_image.specs.Laws.{IsBefore}
+use Rattle.gor_image.specs.Laws.{MayBeWrittenOn}
 use Rattle.gor_image.specs.Fit.{HasBody, IsFitStore, IsFitBy}
 use Rattle.gor_image.proofs.Pushed.{gated_same}
-use Rattle.gor_image.specs.ReadFiles.{ReadsAs, UnreadChangesNothing}
+use Rattle.gor_image.specs.ReadFiles.{ReadsAsGiven, UnreadChangesNothing}
 
 module _ (given image : Contents) where
-  logs_same : (a n : ℕ) → ((l : ℕ) → a ≤ l → l < a + n → gates (image (Log l)) ≡ gates (given (Log l))) → (s : List Batch) → read_logs image (range_with_len a n) s ≡ read_logs given (range_with_len a n) s
+  logs_same : (a n : ℕ) → ((l : ℕ) → a ≤ l → l < a + n → gates (image (Log l)) ≡ gates (given (Log l))) → (s : List BatchInLog) → read_logs image (range_with_len a n) s ≡ read_logs given (range_with_len a n) s
   logs_same a zero same s = refl
   logs_same a (suc n) same s =
-      ap (λ (r : Result (List Batch) ImageFault). and_then r (λ more. read_logs image (range_with_len (a + 1) n) more)) (gated_same given image (read_batch a) (Log a) s (same a (omega arith) (omega arith)))
+      ap (λ (r : Result (List BatchInLog) ImageFault). and_then r (λ more. read_logs image (range_with_len (a + 1) n) more)) (gated_same given image (read_batch a) (Log a) s (same a (omega arith) (omega arith)))
       ∙ on (read_gated given (read_batch a) (Log a) s) (λ u. logs_same (a + 1) n (λ l low high. same l (omega arith) (omega arith)) u) where
-        on : (r : Result (List Batch) ImageFault) → ((u : List Batch) → read_logs image (range_with_len (a + 1) n) u ≡ read_logs given (range_with_len (a + 1) n) u)
+        on : (r : Result (List BatchInLog) ImageFault) → ((u : List BatchInLog) → read_logs image (range_with_len (a + 1) n) u ≡ read_logs given (range_with_len (a + 1) n) u)
             → and_then r (λ more. read_logs image (range_with_len (a + 1) n) more) ≡ and_then r (λ more. read_logs given (range_with_len (a + 1) n) more)
         on (Ok u) further = further u
         on (Err f) further = refl
@@ -42,7 +42,7 @@ module _ (given image : Contents) where
         later true c is = refl
         later false c is = is
 
-module _ (marks : List Mark) (given image : Contents) (as_given : ReadsAs marks given image) where
+module _ (marks : List Mark) (given image : Contents) (as_given : ReadsAsGiven marks given image) where
   pub same_logs : read_logs image (remaining_logs marks) [] ≡ read_logs given (remaining_logs marks) []
   same_logs = logs_same given image (first_log_of marks) _ (λ l low high. as_given.each (Log l) (both_true (le-leb (first_log_of marks) l low) (le-leb l (current marks) (omega arith)))) []
 
@@ -61,19 +61,19 @@ module _ (marks : List Mark) (given image : Contents) (as_given : ReadsAs marks 
       (gated_same given image (read_keys (nat_lt 0 (current marks))) (Keys (current marks)) (keys_from (base_of marks).upto) same_list)
       ∙ ap (λ (r : Result (List BlockRow) ImageFault). and_then (read_gated given (read_keys (nat_lt 0 (current marks))) (Keys (current marks)) (keys_from (base_of marks).upto))
       (λ keys. and_then r (λ blocks. and_then (read_logs image (remaining_logs marks) []) (λ batches. Ok (files_as marks keys blocks batches))))) same_blocks
-      ∙ ap (λ (r : Result (List Batch) ImageFault). and_then (read_gated given (read_keys (nat_lt 0 (current marks))) (Keys (current marks)) (keys_from (base_of marks).upto))
+      ∙ ap (λ (r : Result (List BatchInLog) ImageFault). and_then (read_gated given (read_keys (nat_lt 0 (current marks))) (Keys (current marks)) (keys_from (base_of marks).upto))
       (λ keys. and_then (read_blocks given (live_windows marks)) (λ blocks. and_then r (λ batches. Ok (files_as marks keys blocks batches))))) same_logs
 
 -- what holds of one holds of the other
 module _ (shards shard : ℕ) (given : Contents) (m : Mark) (marks : List Mark) (start : Start) (C : List Change)
-    (before : IsBefore shards shard given (m ∷ marks) start C) where
+    (before : MayBeWrittenOn shards shard given (m ∷ marks) start C) where
   pub store : IsFitStore shards shard given (m ∷ marks)
   store =
       let both : Ok before.fit.fit.marks ≡ Ok (m ∷ marks) = sym before.fit.fit.marks_are ∙ before.marks_are in
       let it : before.fit.fit.marks ≡ m ∷ marks = cc in
       subst (IsFitBy shards shard given) it before.fit.fit.store
 
-  module _ (image : Contents) (as_given : ReadsAs (m ∷ marks) given image) where
+  module _ (image : Contents) (as_given : ReadsAsGiven (m ∷ marks) given image) where
     marks_here : marks_of image ≡ Ok (m ∷ marks)
     marks_here = same_marks (m ∷ marks) given image as_given ∙ before.marks_are
 
@@ -86,7 +86,7 @@ module _ (shards shard : ℕ) (given : Contents) (m : Mark) (marks : List Mark) 
         ∙ ap (λ (r : Result Files ImageFault). and_then (same_home shards shard (m ∷ marks)) (λ t. and_then r (λ files. map_of_files (current (m ∷ marks)) files))) (same_files (m ∷ marks) given image as_given)
         ∙ sym (ap (λ (r : Result (List Mark) ImageFault). and_then r (map_of_marks given shards shard)) before.marks_are)
 
-    pub reads_hold : IsBefore shards shard image (m ∷ marks) start C
+    pub reads_hold : MayBeWrittenOn shards shard image (m ∷ marks) start C
     reads_hold = record {
       fit = record {
         fit = record {

@@ -10,7 +10,7 @@ use Rattle.gor_model.proofs.SlotLaws.{bytes_tell}
 use Rattle.gor_keys.specs.declared.record.KeyRecord.{KeyRecord}
 use Rattle.gor_keys.specs.declared.record.KeyRecord.TheVariants.{Create, Delete, Live}
 use Rattle.gor_image.specs.Records.{Placed}
-use Rattle.gor_image.specs.Recovery.{Names, with_name, without_name, WrongName, WrongSlot, SameName, named, freed, read_name, and_at, read_each, no_names}
+use Rattle.gor_image.specs.Recovery.{Names, with_name, without_name, WrongName, WrongSlot, SameName, name_added, freed, read_name, and_at, read_each, no_names}
 use Rattle.gor_image.specs.Holding.{IsKeyUidBelow}
 
 -- ---- lists of records, with and without their places
@@ -115,7 +115,7 @@ module _ (n : ℕ) (names : Names) (fit : AreRead n names) where
           let both : Some q ≡ Some key = sym own ∙ (ap names.holder here.1 ∙ there) in cc))
       cases (inr apart) (inr other) = rw other.0 (fit.holds q r (was q r is))
 
-  named_read : (uid slot floor : ℕ) (name : List ℕ) (after : Names) → uid < n → named names uid slot floor name ≡ Ok after → AreRead n after
+  named_read : (uid slot floor : ℕ) (name : List ℕ) (after : Names) → uid < n → name_added names uid slot floor name ≡ Ok after → AreRead n after
   named_read uid slot floor name after below is = at (names.holder slot) refl (names.row (key_of name)) refl where
     at : (h : Option (List ℕ)) → names.holder slot ≡ h → (o : Option Row) → names.row (key_of name) ≡ o → AreRead n after
     at (Some k) e o e' = absurd (let both : Err WrongSlot ≡ Ok after = rw e at is in cc)

@@ -8,23 +8,23 @@ use Rattle.gor_model.specs.declared.event.Change.{Change}
 use Rattle.gor_model.specs.declared.start.Start.{Start}
 use Rattle.gor_marks.specs.declared.mark.Mark.{Mark}
 use Rattle.gor_image.specs.declared.fault.ImageFault.{ImageFault}
-use Rattle.gor_image.specs.Records.{Batch, BlockRow, Files}
+use Rattle.gor_image.specs.Records.{BatchInLog, BlockRow, Files}
 use Rattle.gor_image.specs.Grammars.{and_then}
 use Rattle.gor_image.specs.Images.{read_gated, KeysRead, read_keys, read_batch, read_logs, read_blocks, read_mark, read_files, marks_of, map_of, map_of_marks, map_of_files, current, base_of, live_windows, remaining_logs, same_home}
 use Rattle.gor_image.specs.Appends.{keys_from, files_as}
-use Rattle.gor_image.specs.Laws.{HaveSameLists, ListsDecide, IsBefore, AreClosed, SameListsHold}
+use Rattle.gor_image.specs.Laws.{HaveSameLists, ListsDecide, MayBeWrittenOn, AreClosed, SameListsHold}
 use Rattle.gor_image.specs.Turns.{MarksDiffer}
 use Rattle.gor_image.specs.Fit.{HasBody, IsFitStore, IsFitBy}
 use Rattle.gor_image.proofs.Pushed.{gated_same}
 use Rattle.gor_image.proofs.AnyMarks.{blocks_same}
 
 module _ (image after : Contents) (same : MarksDiffer image after) where
-  logs_same : (ls : List ℕ) (s : List Batch) → read_logs after ls s ≡ read_logs image ls s
+  logs_same : (ls : List ℕ) (s : List BatchInLog) → read_logs after ls s ≡ read_logs image ls s
   logs_same [] s = refl
   logs_same (l ∷ ls) s =
-      ap (λ (r : Result (List Batch) ImageFault). and_then r (λ more. read_logs after ls more)) (gated_same image after (read_batch l) (Log l) s (same.logs l))
+      ap (λ (r : Result (List BatchInLog) ImageFault). and_then r (λ more. read_logs after ls more)) (gated_same image after (read_batch l) (Log l) s (same.logs l))
       ∙ on (read_gated image (read_batch l) (Log l) s) (λ u. logs_same ls u) where
-        on : (r : Result (List Batch) ImageFault) → ((u : List Batch) → read_logs after ls u ≡ read_logs image ls u) → and_then r (λ more. read_logs after ls more) ≡ and_then r (λ more. read_logs image ls more)
+        on : (r : Result (List BatchInLog) ImageFault) → ((u : List BatchInLog) → read_logs after ls u ≡ read_logs image ls u) → and_then r (λ more. read_logs after ls more) ≡ and_then r (λ more. read_logs image ls more)
         on (Ok u) further = further u
         on (Err f) further = refl
 
@@ -34,7 +34,7 @@ module _ (image after : Contents) (same : MarksDiffer image after) where
       (gated_same image after (read_keys (nat_lt 0 (current marks))) (Keys (current marks)) (keys_from (base_of marks).upto) (same.keys (current marks)))
       ∙ ap (λ (r : Result (List BlockRow) ImageFault). and_then (read_gated image (read_keys (nat_lt 0 (current marks))) (Keys (current marks)) (keys_from (base_of marks).upto))
       (λ keys. and_then r (λ blocks. and_then (read_logs after (remaining_logs marks) []) (λ batches. Ok (files_as marks keys blocks batches))))) (blocks_same image after same.blocks (live_windows marks))
-      ∙ ap (λ (r : Result (List Batch) ImageFault). and_then (read_gated image (read_keys (nat_lt 0 (current marks))) (Keys (current marks)) (keys_from (base_of marks).upto))
+      ∙ ap (λ (r : Result (List BatchInLog) ImageFault). and_then (read_gated image (read_keys (nat_lt 0 (current marks))) (Keys (current marks)) (keys_from (base_of marks).upto))
       (λ keys. and_then (read_blocks image (live_windows marks)) (λ blocks. and_then r (λ batches. Ok (files_as marks keys blocks batches))))) (logs_same (remaining_logs marks) [])
 
   of_marks_same : (shards shard : ℕ) (marks : List Mark) → map_of_marks after shards shard marks ≡ map_of_marks image shards shard marks
@@ -57,7 +57,7 @@ module _ (image after : Contents) (same : HaveSameLists image after) where
 -- ---- and what is fit stays fit where it is closed
 
 module _ (shards shard : ℕ) (image after : Contents) (m : Mark) (marks : List Mark) (start : Start) (C : List Change)
-    (before : IsBefore shards shard image (m ∷ marks) start C) (same : HaveSameLists image after) (closed : AreClosed after (current (m ∷ marks))) where
+    (before : MayBeWrittenOn shards shard image (m ∷ marks) start C) (same : HaveSameLists image after) (closed : AreClosed after (current (m ∷ marks))) where
   store : IsFitStore shards shard image (m ∷ marks)
   store =
       let both : Ok before.fit.fit.marks ≡ Ok (m ∷ marks) = sym before.fit.fit.marks_are ∙ before.marks_are in
@@ -70,7 +70,7 @@ module _ (shards shard : ℕ) (image after : Contents) (m : Mark) (marks : List 
   body : HasBody (base_of (m ∷ marks)).window (gates (after (Keys (current (m ∷ marks))))).bodies
   body = subst (λ (walk : Walk). HasBody (base_of (m ∷ marks)).window walk.bodies) (sym (same.keys (current (m ∷ marks)))) store.body
 
-  pub lists_hold : IsBefore shards shard after (m ∷ marks) start C
+  pub lists_hold : MayBeWrittenOn shards shard after (m ∷ marks) start C
   lists_hold = record {
     fit = record {
       fit = record {

@@ -10,7 +10,7 @@ use Rattle.gor_model.specs.Windows.{window, window_end, is_kept, kept}
 use Rattle.gor_log.specs.declared.record.LogRecord.{LogRecord}
 use Rattle.gor_log.specs.declared.record.LogRecord.TheVariants.{Put, Floor, Seal}
 use Rattle.gor_image.specs.Records.{BlockRow, Base, Files}
-use Rattle.gor_image.specs.Recovery.{is_above, block_points, put_point, points_of, log_records}
+use Rattle.gor_image.specs.Recovery.{is_above, block_points, put_point, points_of_series, records_of_batches}
 use Rattle.gor_image.specs.Turns.{is_up_to, is_behind, is_live, IsInFile}
 use Rattle.gor_image.specs.FinishLaws.{AreCopiesOf, AreOldBlocks, IsNotAbove, SealsAreCopied, SeriesRise, is_between}
 use Rattle.gor_image.proofs.Core.{Rises}
@@ -82,26 +82,26 @@ module _ (files : Files) (w uid : ℕ) (fresh : List BlockRow) (old : AreOldBloc
   olds = filter_none (is_between files.base.window w) (kept (window_end w) (flat_map (block_points uid) files.blocks))
       (all_filter (λ p. is_between files.base.window w p ≡ false) (is_kept (window_end w)) (flat_map (block_points uid) files.blocks) (old_points files.base.window w uid files.blocks old.0 old.1))
 
-  news : filter (is_between files.base.window w) (kept (window_end w) (filter_map (put_point files.base uid) (log_records files.batches)))
-      ≡ filter (is_up_to w) (kept (window_end w) (filter_map (put_point files.base uid) (log_records files.batches)))
-  news = filter_alike (is_between files.base.window w) (is_up_to w) (kept (window_end w) (filter_map (put_point files.base uid) (log_records files.batches)))
-      (all_weaker (λ p. is_above files.base.window (window p.time) ≡ true) (λ p. is_between files.base.window w p ≡ is_up_to w p) (kept (window_end w) (filter_map (put_point files.base uid) (log_records files.batches)))
+  news : filter (is_between files.base.window w) (kept (window_end w) (filter_map (put_point files.base uid) (records_of_batches files.batches)))
+      ≡ filter (is_up_to w) (kept (window_end w) (filter_map (put_point files.base uid) (records_of_batches files.batches)))
+  news = filter_alike (is_between files.base.window w) (is_up_to w) (kept (window_end w) (filter_map (put_point files.base uid) (records_of_batches files.batches)))
+      (all_weaker (λ p. is_above files.base.window (window p.time) ≡ true) (λ p. is_between files.base.window w p ≡ is_up_to w p) (kept (window_end w) (filter_map (put_point files.base uid) (records_of_batches files.batches)))
       (λ p above. ap (λ b. b && is_up_to w p) above)
-      (all_filter (λ p. is_above files.base.window (window p.time) ≡ true) (is_kept (window_end w)) (filter_map (put_point files.base uid) (log_records files.batches)) (put_points files.base uid (log_records files.batches))))
+      (all_filter (λ p. is_above files.base.window (window p.time) ≡ true) (is_kept (window_end w)) (filter_map (put_point files.base uid) (records_of_batches files.batches)) (put_points files.base uid (records_of_batches files.batches))))
 
   -- the rows have the kept points of the logs up to the window
-  pub rows_have : flat_map (block_points uid) fresh ≡ kept (window_end w) (filter (is_up_to w) (filter_map (put_point files.base uid) (log_records files.batches)))
+  pub rows_have : flat_map (block_points uid) fresh ≡ kept (window_end w) (filter (is_up_to w) (filter_map (put_point files.base uid) (records_of_batches files.batches)))
   rows_have = copies
-      ∙ ap (filter (is_between files.base.window w)) (filter-append (is_kept (window_end w)) (flat_map (block_points uid) files.blocks) (filter_map (put_point files.base uid) (log_records files.batches)))
-      ∙ filter-append (is_between files.base.window w) (kept (window_end w) (flat_map (block_points uid) files.blocks)) (kept (window_end w) (filter_map (put_point files.base uid) (log_records files.batches)))
-      ∙ ap (λ l. l ++ filter (is_between files.base.window w) (kept (window_end w) (filter_map (put_point files.base uid) (log_records files.batches)))) olds
+      ∙ ap (filter (is_between files.base.window w)) (filter-append (is_kept (window_end w)) (flat_map (block_points uid) files.blocks) (filter_map (put_point files.base uid) (records_of_batches files.batches)))
+      ∙ filter-append (is_between files.base.window w) (kept (window_end w) (flat_map (block_points uid) files.blocks)) (kept (window_end w) (filter_map (put_point files.base uid) (records_of_batches files.batches)))
+      ∙ ap (λ l. l ++ filter (is_between files.base.window w) (kept (window_end w) (filter_map (put_point files.base uid) (records_of_batches files.batches)))) olds
       ∙ news
-      ∙ filter_swap (is_up_to w) (is_kept (window_end w)) (filter_map (put_point files.base uid) (log_records files.batches))
+      ∙ filter_swap (is_up_to w) (is_kept (window_end w)) (filter_map (put_point files.base uid) (records_of_batches files.batches))
 
 pub seals_are_copied : SealsAreCopied
 seals_are_copied files w uid fresh old copies =
     ap (kept (window_end w)) (rows_have files w uid fresh old copies)
-    ∙ kept_kept (window_end w) (window_end w) (filter (is_up_to w) (filter_map (put_point files.base uid) (log_records files.batches))) (omega arith)
+    ∙ kept_kept (window_end w) (window_end w) (filter (is_up_to w) (filter_map (put_point files.base uid) (records_of_batches files.batches))) (omega arith)
 
 -- ---- rising points
 
@@ -181,25 +181,25 @@ pub series_rise : SeriesRise
 series_rise files w upto uid fresh dropped remaining old copies rises log_is none rise =
     subst Rises (sym are) (join (flat_map (block_points uid) (filter (is_live w) files.blocks)) _ (record {
       left = rise_rows w uid files.blocks s.left;
-      right = puts_rise (window_end w) w (filter_map (put_point files.base uid) (log_records files.batches)) s.right;
-      before = some_rows (λ x. AllByRecursion (λ y. x.time < y.time) (kept (window_end w) (filter (is_up_to w) (filter_map (put_point files.base uid) (log_records files.batches))) ++ filter (is_behind w) (filter_map (put_point files.base uid) (log_records files.batches)))) w uid files.blocks
-          (all_weaker (λ x. AllByRecursion (λ y. x.time < y.time) (filter_map (put_point files.base uid) (log_records files.batches)))
-          (λ x. AllByRecursion (λ y. x.time < y.time) (kept (window_end w) (filter (is_up_to w) (filter_map (put_point files.base uid) (log_records files.batches))) ++ filter (is_behind w) (filter_map (put_point files.base uid) (log_records files.batches))))
-          (flat_map (block_points uid) files.blocks) (λ x all. puts_under (λ y. x.time < y.time) (window_end w) w (filter_map (put_point files.base uid) (log_records files.batches)) all) s.before);
+      right = puts_rise (window_end w) w (filter_map (put_point files.base uid) (records_of_batches files.batches)) s.right;
+      before = some_rows (λ x. AllByRecursion (λ y. x.time < y.time) (kept (window_end w) (filter (is_up_to w) (filter_map (put_point files.base uid) (records_of_batches files.batches))) ++ filter (is_behind w) (filter_map (put_point files.base uid) (records_of_batches files.batches)))) w uid files.blocks
+          (all_weaker (λ x. AllByRecursion (λ y. x.time < y.time) (filter_map (put_point files.base uid) (records_of_batches files.batches)))
+          (λ x. AllByRecursion (λ y. x.time < y.time) (kept (window_end w) (filter (is_up_to w) (filter_map (put_point files.base uid) (records_of_batches files.batches))) ++ filter (is_behind w) (filter_map (put_point files.base uid) (records_of_batches files.batches))))
+          (flat_map (block_points uid) files.blocks) (λ x all. puts_under (λ y. x.time < y.time) (window_end w) w (filter_map (put_point files.base uid) (records_of_batches files.batches)) all) s.before);
     })) where
-      s : Splits (flat_map (block_points uid) files.blocks) (filter_map (put_point files.base uid) (log_records files.batches))
-      s = split (flat_map (block_points uid) files.blocks) (filter_map (put_point files.base uid) (log_records files.batches)) rise
+      s : Splits (flat_map (block_points uid) files.blocks) (filter_map (put_point files.base uid) (records_of_batches files.batches))
+      s = split (flat_map (block_points uid) files.blocks) (filter_map (put_point files.base uid) (records_of_batches files.batches)) rise
 
-      behind : filter_map (put_point (record { window = Some w; upto = upto }) uid) remaining ≡ filter (is_behind w) (filter_map (put_point files.base uid) (log_records files.batches))
+      behind : filter_map (put_point (record { window = Some w; upto = upto }) uid) remaining ≡ filter (is_behind w) (filter_map (put_point files.base uid) (records_of_batches files.batches))
       behind = ap (λ (l : List Point). l ++ filter_map (put_point (record { window = Some w; upto = upto }) uid) remaining) (sym (dropped_puts w upto uid dropped none))
           ∙ sym (filter_map-append (put_point (record { window = Some w; upto = upto }) uid) dropped remaining)
           ∙ puts_behind files.base w upto uid (dropped ++ remaining) rises
           ∙ ap (λ (l : List LogRecord). filter (is_behind w) (filter_map (put_point files.base uid) l)) (sym log_is)
 
-      are : points_of (record { window = Some w; upto = upto }) (filter (is_live w) files.blocks ++ fresh) remaining uid
+      are : points_of_series (record { window = Some w; upto = upto }) (filter (is_live w) files.blocks ++ fresh) remaining uid
           ≡ flat_map (block_points uid) (filter (is_live w) files.blocks)
-          ++ (kept (window_end w) (filter (is_up_to w) (filter_map (put_point files.base uid) (log_records files.batches))) ++ filter (is_behind w) (filter_map (put_point files.base uid) (log_records files.batches)))
+          ++ (kept (window_end w) (filter (is_up_to w) (filter_map (put_point files.base uid) (records_of_batches files.batches))) ++ filter (is_behind w) (filter_map (put_point files.base uid) (records_of_batches files.batches)))
       are = ap (λ (l : List Point). l ++ filter_map (put_point (record { window = Some w; upto = upto }) uid) remaining) (flat_map-append (block_points uid) (filter (is_live w) files.blocks) fresh)
           ∙ append_assoc (flat_map (block_points uid) (filter (is_live w) files.blocks)) (flat_map (block_points uid) fresh) (filter_map (put_point (record { window = Some w; upto = upto }) uid) remaining)
           ∙ ap (λ (l : List Point). flat_map (block_points uid) (filter (is_live w) files.blocks) ++ (l ++ filter_map (put_point (record { window = Some w; upto = upto }) uid) remaining)) (rows_have files w uid fresh old copies)
-          ∙ ap (λ (l : List Point). flat_map (block_points uid) (filter (is_live w) files.blocks) ++ (kept (window_end w) (filter (is_up_to w) (filter_map (put_point files.base uid) (log_records files.batches))) ++ l)) behind
+          ∙ ap (λ (l : List Point). flat_map (block_points uid) (filter (is_live w) files.blocks) ++ (kept (window_end w) (filter (is_up_to w) (filter_map (put_point files.base uid) (records_of_batches files.batches))) ++ l)) behind

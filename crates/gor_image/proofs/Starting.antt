@@ -17,8 +17,8 @@ use Rattle.gor_keys.specs.declared.record.KeyRecord.TheVariants.{Create, Delete,
 use Rattle.gor_log.specs.declared.record.LogRecord.{LogRecord}
 use Rattle.gor_log.specs.declared.record.LogRecord.TheVariants.{Put, Floor, Seal}
 use Rattle.gor_image.specs.Records.{Placed, BlockRow, Base, Files}
-use Rattle.gor_image.specs.Recovery.{Names, WrongName, WrongSlot, SameName, recovered, with_name, without_name, named, freed, read_name, and_at, read_each, no_names, counts, counted_keys, names_of, log_records, points_of, put_point, block_points, seal_end, floor_end, base_end, is_above, filled, next_of}
-use Rattle.gor_image.specs.Holding.{RecoverTo, rows_of, start_of}
+use Rattle.gor_image.specs.Recovery.{Names, WrongName, WrongSlot, SameName, recovered, with_name, without_name, name_added, freed, read_name, and_at, read_each, no_names, counts, counted_keys, names_of, records_of_batches, points_of_series, put_point, block_points, seal_end, floor_end, base_end, is_above, filled, next_of}
+use Rattle.gor_image.specs.Holding.{RecoverTo, rows_of_map, start_of_map}
 use Rattle.gor_image.proofs.Core.{Rises}
 use Rattle.gor_image.proofs.Opening.{Fits, rows_apart, rows_are}
 
@@ -33,7 +33,7 @@ Have : (List ℕ → Row → Type 0) → Names → Type 0
 Have P names = (k : List ℕ) (r : Row) → names.row k ≡ Some r → P k r
 
 module _ (P : List ℕ → Row → Type 0) where
-  named_have : (names after : Names) (uid slot floor : ℕ) (name : List ℕ) → Have P names → P (key_of name) (record { name = name; slot = slot; uid = uid; floor = floor; points = [] }) → named names uid slot floor name ≡ Ok after → Have P after
+  named_have : (names after : Names) (uid slot floor : ℕ) (name : List ℕ) → Have P names → P (key_of name) (record { name = name; slot = slot; uid = uid; floor = floor; points = [] }) → name_added names uid slot floor name ≡ Ok after → Have P after
   unfolding Have
   named_have names after uid slot floor name have own is = at (names.holder slot) refl (names.row (key_of name)) refl where
     fresh : Row
@@ -166,33 +166,33 @@ IsNamed key row = (key ≡ key_of row.name) × (1 ≤ row.uid) × (row.uid < 2 ^
 pub record InLimits (files : Files) : Type 0 where
   pub window : IsFloor (base_end files.base.window)
   pub keys : AllByRecursion (λ (x : Placed KeyRecord). IsRecordOf IsNamed x.it) files.keys
-  pub log : AllByRecursion IsLogInLimits (log_records files.batches)
+  pub log : AllByRecursion IsLogInLimits (records_of_batches files.batches)
   pub blocks : AllByRecursion (λ b. AllByRecursion IsTimely b.points) files.blocks
 
 module _ (files : Files) (names : Names) (slots : ℕ) (recover : RecoverTo files names) (fit : Fits (recovered files names)) (limits : InLimits files) where
   -- where no name needs a slot beyond those given, a shard may have these and the numbers do not end, an opening gives a start
-  pub is_start : ((k : List ℕ) (r : Row) → (recovered files names).row k ≡ Some r → r.slot < slots) → next_of files ≤ 2 ^ 62 → slots ≤ slots_of_a_shard → IsStart (start_of slots (recovered files names))
+  pub is_start : ((k : List ℕ) (r : Row) → (recovered files names).row k ≡ Some r → r.slot < slots) → next_of files ≤ 2 ^ 62 → slots ≤ slots_of_a_shard → IsStart (start_of_map slots (recovered files names))
   is_start enough not_worn few = record {
     slots = few;
-    floor = greatest_floor (base_end files.base.window) (filter_map floor_end (log_records files.batches)) limits.window (floors_in (log_records files.batches) limits.log);
+    floor = greatest_floor (base_end files.base.window) (filter_map floor_end (records_of_batches files.batches)) limits.window (floors_in (records_of_batches files.batches) limits.log);
     next = (omega arith, not_worn);
-    rows = all_weaker (λ (r : List ℕ × Row). (recovered files names).row r.0 ≡ Some r.1) (λ (r : List ℕ × Row). IsRow slots r.0 r.1) (rows_of (recovered files names)) (λ r is. one r.0 r.1 is) (rows_are (recovered files names));
+    rows = all_weaker (λ (r : List ℕ × Row). (recovered files names).row r.0 ≡ Some r.1) (λ (r : List ℕ × Row). IsRow slots r.0 r.1) (rows_of_map (recovered files names)) (λ r is. one r.0 r.1 is) (rows_are (recovered files names));
     apart = rows_apart (recovered files names) fit;
   } where
     one : (k : List ℕ) (r : Row) → (recovered files names).row k ≡ Some r → IsRow slots k r
     one k r is = by (names.row k) refl is where
-      by : (o : Option Row) → names.row k ≡ o → option_map (filled files.base files.blocks (log_records files.batches)) o ≡ Some r → IsRow slots k r
+      by : (o : Option Row) → names.row k ≡ o → option_map (filled files.base files.blocks (records_of_batches files.batches)) o ≡ Some r → IsRow slots k r
       by None e is' = absurd (let both : None ≡ Some r = is' in cc)
       by (Some x) e is' =
-          let it : filled files.base files.blocks (log_records files.batches) x ≡ r = cc in
+          let it : filled files.base files.blocks (records_of_batches files.batches) x ≡ r = cc in
           let own = names_have IsNamed files names recover limits.keys k x e in
           subst (IsRow slots k) it (record {
             keyed = own.0;
             slot = subst (λ (y : Row). y.slot < slots) (sym it) (enough k r is);
             uid = (own.1, own.2);
-            floor = greatest_floor x.floor (filter_map (seal_end x.uid) (log_records files.batches)) own.3 (seals_in x.uid (log_records files.batches) limits.log);
-            rising = kept_rises _ (points_of files.base files.blocks (log_records files.batches) x.uid) (recover.rising k x e);
-            timely = all_filter IsTimely (is_kept (filled files.base files.blocks (log_records files.batches) x).floor) (points_of files.base files.blocks (log_records files.batches) x.uid)
-                (all_joined IsTimely (flat_map (block_points x.uid) files.blocks) (filter_map (put_point files.base x.uid) (log_records files.batches)) (blocks_in x.uid files.blocks limits.blocks) (puts_in files.base x.uid (log_records files.batches) limits.log));
-            kept = all_kept (filled files.base files.blocks (log_records files.batches) x).floor (points_of files.base files.blocks (log_records files.batches) x.uid);
+            floor = greatest_floor x.floor (filter_map (seal_end x.uid) (records_of_batches files.batches)) own.3 (seals_in x.uid (records_of_batches files.batches) limits.log);
+            rising = kept_rises _ (points_of_series files.base files.blocks (records_of_batches files.batches) x.uid) (recover.rising k x e);
+            timely = all_filter IsTimely (is_kept (filled files.base files.blocks (records_of_batches files.batches) x).floor) (points_of_series files.base files.blocks (records_of_batches files.batches) x.uid)
+                (all_joined IsTimely (flat_map (block_points x.uid) files.blocks) (filter_map (put_point files.base x.uid) (records_of_batches files.batches)) (blocks_in x.uid files.blocks limits.blocks) (puts_in files.base x.uid (records_of_batches files.batches) limits.log));
+            kept = all_kept (filled files.base files.blocks (records_of_batches files.batches) x).floor (points_of_series files.base files.blocks (records_of_batches files.batches) x.uid);
           })

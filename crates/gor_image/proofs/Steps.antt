@@ -8,7 +8,7 @@ use Rattle.gor_model.proofs.SlotLaws.{bytes_tell}
 use Rattle.gor_model.proofs.Lists.{all_push, all_weaker}
 use Rattle.gor_log.specs.declared.record.LogRecord.{LogRecord}
 use Rattle.gor_image.specs.Records.{BlockRow, Base}
-use Rattle.gor_image.specs.Recovery.{points_of, Names, with_name, without_name}
+use Rattle.gor_image.specs.Recovery.{points_of_series, Names, with_name, without_name}
 use Rattle.gor_image.specs.Holding.{IsUidBelow}
 use Rattle.gor_image.proofs.Lists.{no_puts, no_blocks}
 use Rattle.gor_image.proofs.Core.{Rises, NamesFit, uid_above}
@@ -16,7 +16,7 @@ use Rattle.gor_image.proofs.Core.{Rises, NamesFit, uid_above}
 module _ (base : Base) (blocks : List BlockRow) (n : ℕ) (names : Names) (log : List LogRecord) (fit : NamesFit base blocks n names log) where
   -- another record in the log
   pub fit_log : (m : ℕ) → n ≤ m → (x : LogRecord) → IsUidBelow m x
-      → ((k : List ℕ) (r : Row) → names.row k ≡ Some r → Rises (points_of base blocks (log ++ x ∷ []) r.uid))
+      → ((k : List ℕ) (r : Row) → names.row k ≡ Some r → Rises (points_of_series base blocks (log ++ x ∷ []) r.uid))
       → NamesFit base blocks m names (log ++ x ∷ [])
   fit_log m le x below rises = record {
     held = fit.held;
@@ -78,14 +78,14 @@ module _ (base : Base) (blocks : List BlockRow) (n : ℕ) (names : Names) (log :
       cases (inr a) (inl b) = absurd (let h = fit.below k r (rw a.0 at is_r) in let u = fresh_uid o (rw b.0 at is_o) in omega arith)
       cases (inr a) (inr b) = fit.differ k l r o (rw a.0 at is_r) (rw b.0 at is_o) same
 
-    rising : (q : List ℕ) (r : Row) → (if bytes_eq q key then Some fresh else names.row q) ≡ Some r → Rises (points_of base blocks log r.uid)
+    rising : (q : List ℕ) (r : Row) → (if bytes_eq q key then Some fresh else names.row q) ≡ Some r → Rises (points_of_series base blocks log r.uid)
     rising q r is = cases (bytes_tell q key) where
-      none : points_of base blocks log n ≡ []
+      none : points_of_series base blocks log n ≡ []
       none = rw (no_puts base n log fit.log_below, no_blocks n blocks fit.block_below) refl
 
-      cases : ((bytes_eq q key ≡ true) × (q ≡ key)) ⊎ ((bytes_eq q key ≡ false) × (q ≢ key)) → Rises (points_of base blocks log r.uid)
+      cases : ((bytes_eq q key ≡ true) × (q ≡ key)) ⊎ ((bytes_eq q key ≡ false) × (q ≢ key)) → Rises (points_of_series base blocks log r.uid)
       cases (inl same) = let both : Some fresh ≡ Some r = rw same.0 at is in let it : fresh ≡ r = cc in
-          subst (λ (o : Row). Rises (points_of base blocks log o.uid)) it (subst (λ u. Rises (points_of base blocks log u)) (sym uid) (subst Rises (sym none) tt))
+          subst (λ (o : Row). Rises (points_of_series base blocks log o.uid)) it (subst (λ u. Rises (points_of_series base blocks log u)) (sym uid) (subst Rises (sym none) tt))
       cases (inr apart) = fit.rising q r (rw apart.0 at is)
 
   -- a name less

@@ -15,7 +15,7 @@ use Rattle.gor_model.proofs.Lists.{last_push}
 use Rattle.gor_marks.specs.declared.mark.Mark.{Mark}
 use Rattle.gor_marks.specs.declared.mark.Mark.TheVariants.{Home, Sealed}
 use Rattle.gor_marks.specs.Reading.{mark_in}
-use Rattle.gor_marks.specs.Spelling.{spelling}
+use Rattle.gor_marks.specs.Spelling.{mark_spelling}
 use Rattle.gor_marks.proofs.MarkLaws.{mark_again}
 use Rattle.gor_image.specs.Records.{Files}
 use Rattle.gor_image.specs.Recovery.{Names, ShardMap, is_above, names_of, recovered}
@@ -24,8 +24,8 @@ use Rattle.gor_image.specs.Grammars.{and_then, from, mark_at}
 use Rattle.gor_image.specs.Images.{base_of, current, first_log_of, mark_after, marks_of, read_files, read_mark, same_home, sealed_window}
 use Rattle.gor_image.specs.Fit.{FitHolds, HasBody, IsFitBy, IsFitStore}
 use Rattle.gor_image.specs.Appends.{ImageStands, files_as}
-use Rattle.gor_image.specs.MarkLists.{MayFollow}
-use Rattle.gor_image.specs.Laws.{AreClosed, IsBefore}
+use Rattle.gor_image.specs.MarkLists.{MarkMayFollow}
+use Rattle.gor_image.specs.Laws.{AreClosed, MayBeWrittenOn}
 use Rattle.gor_image.specs.Turns.{HasNew, MarksDiffer, MarkTurns, Turned}
 use Rattle.gor_image.proofs.AnyMarks.{reads_as}
 use Rattle.gor_image.proofs.FitLaw.{fit_of_holds, map_is_of, stands_of_fit, store_keyed, store_low}
@@ -47,10 +47,10 @@ follows_at s w k u f at is =
     let v = unless (nat_lt f (first_log_of s)) _ _ (s ++ Sealed w k u f ∷ []) r.1 in
     rw (p.0, q.0, r.0, v.0) refl
 
-mark_reads : (m : Mark) (marks : List Mark) (w k u f at : ℕ) → MayFollow (m ∷ marks) (Sealed w k u f) → read_mark (m ∷ marks) at (spelling (Sealed w k u f)) ≡ Ok (m ∷ (marks ++ Sealed w k u f ∷ []))
+mark_reads : (m : Mark) (marks : List Mark) (w k u f at : ℕ) → MarkMayFollow (m ∷ marks) (Sealed w k u f) → read_mark (m ∷ marks) at (mark_spelling (Sealed w k u f)) ≡ Ok (m ∷ (marks ++ Sealed w k u f ∷ []))
 unfolding mark_at
 mark_reads m marks w k u f at may =
-    let one : mark_in false (spelling (Sealed w k u f)) ≡ Ok (Sealed w k u f) = mark_again (Sealed w k u f) may.limits in
+    let one : mark_in false (mark_spelling (Sealed w k u f)) ≡ Ok (Sealed w k u f) = mark_again (Sealed w k u f) may.limits in
     ap (λ r. and_then (from at r) (mark_after (m ∷ marks) at)) one ∙ follows_at (m ∷ marks) w k u f at may.rises
 
 same_own : (shards shard : ℕ) (m : Mark) (xs ys : List Mark) → same_home shards shard (m ∷ xs) ≡ Ok tt → same_home shards shard (m ∷ ys) ≡ Ok tt
@@ -58,7 +58,7 @@ same_own shards shard (Home n s) xs ys is = is
 same_own shards shard (Sealed w k u f) xs ys is = refl
 
 module _ (shards shard : ℕ) (image after : Contents) (m : Mark) (marks more : List Mark) (w upto : ℕ) (start : Start) (C : List Change)
-    (before : IsBefore shards shard image (m ∷ marks) start C) (new : HasNew image (m ∷ marks) (m ∷ more) w upto) where
+    (before : MayBeWrittenOn shards shard image (m ∷ marks) start C) (new : HasNew image (m ∷ marks) (m ∷ more) w upto) where
   store : IsFitStore shards shard image (m ∷ marks)
   store =
       let both : Ok before.fit.fit.marks ≡ Ok (m ∷ marks) = sym before.fit.fit.marks_are ∙ before.marks_are in
@@ -97,7 +97,7 @@ module _ (shards shard : ℕ) (image after : Contents) (m : Mark) (marks more : 
 
   -- what then holds the state can be written on
   pub turned_before : upto + 1 ≤ next_change start C → MarksDiffer image after → marks_of after ≡ Ok (m ∷ more) → (base_of (m ∷ more)).window ≡ Some w → AreClosed after (current (m ∷ more))
-      → IsBefore shards shard after (m ∷ more) start C
+      → MayBeWrittenOn shards shard after (m ∷ more) start C
   turned_before taken same marks_are window closed = with_stand (new_stand taken) where
     files_are : read_files after (m ∷ more) ≡ Ok new.new
     files_are = files_same image after same (m ∷ more) ∙ new.new_are
@@ -111,7 +111,7 @@ module _ (shards shard : ℕ) (image after : Contents) (m : Mark) (marks more : 
     body : HasBody (base_of (m ∷ more)).window (gates (after (Keys (current (m ∷ more))))).bodies
     body = subst (λ (o : Option ℕ). HasBody o (gates (after (Keys (current (m ∷ more))))).bodies) (sym window) some
 
-    with_fit : (s : Stand new.new start C) → FitHolds shards shard after start C → IsBefore shards shard after (m ∷ more) start C
+    with_fit : (s : Stand new.new start C) → FitHolds shards shard after start C → MayBeWrittenOn shards shard after (m ∷ more) start C
     with_fit s f = record { fit = f; marks_are = marks_are; next = low_next } where
       low_next : f.holds.map.next ≤ next_change start C
       low_next =
@@ -120,7 +120,7 @@ module _ (shards shard : ℕ) (image after : Contents) (m : Mark) (marks more : 
           let it : recovered new.new s.names ≡ f.holds.map = cc in
           subst (λ (p : ShardMap). p.next ≤ next_change start C) it s.next
 
-    with_stand : Stand new.new start C → IsBefore shards shard after (m ∷ more) start C
+    with_stand : Stand new.new start C → MayBeWrittenOn shards shard after (m ∷ more) start C
     with_stand s = with_fit s (fit_of_holds shards shard after m more start C (record {
       marks_are = marks_are;
       files = new.new;
@@ -131,6 +131,6 @@ module _ (shards shard : ℕ) (image after : Contents) (m : Mark) (marks more : 
 pub mark_turns : MarkTurns
 mark_turns shards shard image after m marks w k upto first_log start C before may taken new same pushes closed =
     turned_before shards shard image after m marks (marks ++ Sealed w k upto first_log ∷ []) w upto start C before new taken same
-    (gated_more image after read_mark Marks [] (m ∷ marks) (m ∷ (marks ++ Sealed w k upto first_log ∷ [])) (spelling (Sealed w k upto first_log)) pushes before.marks_are
+    (gated_more image after read_mark Marks [] (m ∷ marks) (m ∷ (marks ++ Sealed w k upto first_log ∷ [])) (mark_spelling (Sealed w k upto first_log)) pushes before.marks_are
     (mark_reads m marks w k upto first_log ((gates (image Marks)).end + 9) may))
     (window_push (m ∷ marks) w k upto first_log) closed

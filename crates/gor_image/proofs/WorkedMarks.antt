@@ -4,7 +4,7 @@ use Rattle.std.specs.Prelude.{Ok}
 use Rattle.gor_marks.specs.declared.mark.Mark.{Mark}
 use Rattle.gor_marks.specs.declared.mark.Mark.TheVariants.{Home, Sealed}
 use Rattle.gor_image.specs.declared.fault.DamageKind.TheVariants.{Order}
-use Rattle.gor_image.specs.Grammars.{wrong}
+use Rattle.gor_image.specs.Grammars.{damage_at}
 use Rattle.gor_image.specs.Images.{current, base_of, remaining_logs, live_windows, mark_after}
 
 -- three finishes: the second left a log of the first one's time, and the third only the current one
@@ -41,14 +41,14 @@ fresh_logs = refl
 it_follows : mark_after some_marks 100 (Sealed 17 3 30 3) ≡ Ok more_marks
 it_follows = refl
 
-same_window : mark_after some_marks 100 (Sealed 6 3 30 3) ≡ wrong 102 Order
+same_window : mark_after some_marks 100 (Sealed 6 3 30 3) ≡ damage_at 102 Order
 same_window = refl
 
-wrong_number : mark_after some_marks 100 (Sealed 17 4 30 3) ≡ wrong 106 Order
+wrong_number : mark_after some_marks 100 (Sealed 17 4 30 3) ≡ damage_at 106 Order
 wrong_number = refl
 
-lower_upto : mark_after some_marks 100 (Sealed 17 3 19 3) ≡ wrong 110 Order
+lower_upto : mark_after some_marks 100 (Sealed 17 3 19 3) ≡ damage_at 110 Order
 lower_upto = refl
 
-lower_log : mark_after some_marks 100 (Sealed 17 3 20 0) ≡ wrong 118 Order
+lower_log : mark_after some_marks 100 (Sealed 17 3 20 0) ≡ damage_at 118 Order
 lower_log = refl

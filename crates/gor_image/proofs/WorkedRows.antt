@@ -5,7 +5,7 @@ use Rattle.std.specs.Str.{bytes_eq}
 use Rattle.gor_model.specs.Windows.{slots_of_a_shard}
 use Rattle.gor_model.specs.Names.{key_of}
 use Rattle.gor_model.proofs.SlotLaws.{bytes_tell}
-use Rattle.gor_image.specs.Holding.{RecoverTo, IsFit, Stand, start_of}
+use Rattle.gor_image.specs.Holding.{RecoverTo, IsFit, Stand, start_of_map}
 use Rattle.gor_image.specs.Recovery.{with_name, recovered}
 use Rattle.gor_image.proofs.Core.{Rises}
 use Rattle.gor_image.proofs.Opening.{opening_law}
@@ -16,7 +16,7 @@ use Rattle.gor_keys.specs.declared.record.KeyRecord.TheVariants.{Create, Delete}
 use Rattle.gor_log.specs.declared.record.LogRecord.{LogRecord}
 use Rattle.gor_log.specs.declared.record.LogRecord.TheVariants.{Put, Floor, Seal}
 use Rattle.gor_image.specs.Records.{Placed, Files}
-use Rattle.gor_image.specs.Recovery.{counted_keys, log_records, points_of, filled, floor_of, next_of, names_of, Names, read_name, no_names, WrongSlot}
+use Rattle.gor_image.specs.Recovery.{counted_keys, records_of_batches, points_of_series, filled, floor_of, next_of, names_of, Names, read_name, no_names, WrongSlot}
 use Rattle.gor_image.specs.declared.fault.DamageKind.TheVariants.{Order}
 use Rattle.gor_image.specs.Images.{KeysRead, keys_after}
 
@@ -35,7 +35,7 @@ one_counts = refl
 next_is_three : next_of small ≡ 3
 next_is_three = refl
 
-its_points : points_of small.base small.blocks (log_records small.batches) 1 ≡ record { time = 10; word = 1 } ∷ []
+its_points : points_of_series small.base small.blocks (records_of_batches small.batches) 1 ≡ record { time = 10; word = 1 } ∷ []
 its_points = refl
 
 -- a seal two days later drops the point, and a floor raises the shard
@@ -89,7 +89,7 @@ small_recovers = record {
   numbers = (omega arith, (omega arith, tt));
   batches = (omega arith, omega arith, tt);
   reads = refl;
-  rising = λ k r is. subst (λ (x : Row). Rises (points_of small.base small.blocks (log_records small.batches) x.uid)) (only_row k r is).1 (tt, tt);
+  rising = λ k r is. subst (λ (x : Row). Rises (points_of_series small.base small.blocks (records_of_batches small.batches) x.uid)) (only_row k r is).1 (tt, tt);
 }
 
 found_row : (k : List ℕ) (r : Row) → (recovered small (with_name no_names (key_of (97 ∷ [])) (record { name = 97 ∷ []; slot = 0; uid = 1; floor = 0; points = [] }))).row k ≡ Some r
@@ -109,6 +109,6 @@ small_fit = record {
   block_uids = tt;
 }
 
-pub small_stands : Stand small (start_of 4 (recovered small (with_name no_names (key_of (97 ∷ [])) (record { name = 97 ∷ []; slot = 0; uid = 1; floor = 0; points = [] })))) []
+pub small_stands : Stand small (start_of_map 4 (recovered small (with_name no_names (key_of (97 ∷ [])) (record { name = 97 ∷ []; slot = 0; uid = 1; floor = 0; points = [] })))) []
 small_stands = opening_law small (with_name no_names (key_of (97 ∷ [])) (record { name = 97 ∷ []; slot = 0; uid = 1; floor = 0; points = [] })) 4 small_recovers small_fit
     (λ k r is. subst (λ (x : Row). x.slot < slots_of_a_shard) (found_row k r is).1 (omega arith))

@@ -13,23 +13,22 @@ use Rattle.gor_model.specs.PlainMap.{kept_row_after, unused_slots}
 use Rattle.gor_model.proofs.SlotLaws.{bytes_tell}
 use Rattle.gor_disk.specs.declared.disk.FileId.TheVariants.{Marks, Keys, Log, Block}
 use Rattle.gor_disk.specs.Disk.{Contents}
-use Rattle.gor_gate.specs.Gates.{gates, walk, number_of}
+use Rattle.gor_gate.specs.Gates.{gates, walk, number_of_bytes}
 use Rattle.gor_name.specs.NameTest.{is_name}
 use Rattle.gor_marks.specs.declared.mark.Mark.TheVariants.{Home}
 use Rattle.gor_marks.specs.Reading.{mark_in, kind_in, home_in}
 use Rattle.gor_keys.specs.declared.record.KeyRecord.TheVariants.{Create}
-use Rattle.gor_keys.specs.Reading.{keys_in, record_in, series_in}
+use Rattle.gor_keys.specs.Reading.{keys_in, key_record_in, series_record_in}
 use Rattle.gor_log.specs.declared.record.LogRecord.TheVariants.{Put}
-use Rattle.gor_log.specs.Reading.{log_in, header_in}
-use Rattle.gor_log.specs.Reading as log_reading
+use Rattle.gor_log.specs.Reading.{log_in, header_in, log_record_in, put_in}
 use Rattle.gor_image.specs.declared.fault.DamageKind.TheVariants.{Version, Kind, Value}
 use Rattle.gor_image.specs.declared.fault.ImageFault.TheVariants.{Damage}
 use Rattle.gor_image.specs.declared.fault.ImageFault.TheVariants as fault
 use Rattle.gor_image.specs.Records.{Files}
-use Rattle.gor_image.specs.Recovery.{Names, with_name, no_names, recovered, points_of, log_records, next_of}
+use Rattle.gor_image.specs.Recovery.{Names, with_name, no_names, recovered, points_of_series, records_of_batches, next_of}
 use Rattle.gor_image.specs.Holding.{RecoverTo, HoldsState}
 use Rattle.gor_image.specs.Grammars.{mark_at, keys_at, log_at}
-use Rattle.gor_image.specs.Images.{marks_of, read_files, read_logs, map_of, Holds}
+use Rattle.gor_image.specs.Images.{marks_of, read_files, read_logs, map_of, HoldsChanges}
 use Rattle.gor_image.proofs.Core.{Rises}
 use Rattle.gor_image.proofs.Mapped.{map_is}
 use Rattle.gor_image.proofs.FitLaw.{map_is_of}
@@ -52,7 +51,7 @@ store log (Log l) = log
 store log (Block w) = []
 
 marks_are : (log : List ℕ) → marks_of (store log) ≡ Ok (Home 1 0 ∷ [])
-unfolding gates walk number_of mark_at mark_in kind_in home_in
+unfolding gates walk number_of_bytes mark_at mark_in kind_in home_in
 marks_are log = refl
 
 abbrev files : Files
@@ -64,7 +63,7 @@ files = record {
 }
 
 files_are : read_files (store log_bytes) (Home 1 0 ∷ []) ≡ Ok files
-unfolding gates walk number_of keys_at keys_in each_within record_in series_in is_name is_utf8 chars encode log_at log_in header_in log_reading.record_in log_reading.put_in
+unfolding gates walk number_of_bytes keys_at keys_in each_within key_record_in series_record_in is_name is_utf8 chars encode log_at log_in header_in log_record_in put_in
 files_are = refl
 
 -- ---- one wrong byte in the log
@@ -73,15 +72,15 @@ abbrev put_at : ℕ → ℕ → List ℕ → List ℕ
 put_at at byte bytes = take at bytes ++ byte ∷ drop (at + 1) bytes
 
 wrong_version : read_logs (store (put_at 9 2 log_bytes)) (0 ∷ []) [] ≡ Err (Damage (Log 0) 9 Version)
-unfolding gates walk number_of log_at log_in
+unfolding gates walk number_of_bytes log_at log_in
 wrong_version = refl
 
 wrong_kind : read_logs (store (put_at 26 7 log_bytes)) (0 ∷ []) [] ≡ Err (Damage (Log 0) 26 Kind)
-unfolding gates walk number_of log_at log_in header_in each_within log_reading.record_in
+unfolding gates walk number_of_bytes log_at log_in header_in each_within log_record_in
 wrong_kind = refl
 
 wrong_first : read_logs (store (put_at 17 0 log_bytes)) (0 ∷ []) [] ≡ Err (Damage (Log 0) 10 Value)
-unfolding gates walk number_of log_at log_in header_in
+unfolding gates walk number_of_bytes log_at log_in header_in
 wrong_first = refl
 
 -- ---- what it recovers to
@@ -102,7 +101,7 @@ recovers = record {
   numbers = (omega arith, tt);
   batches = (omega arith, omega arith, tt);
   reads = refl;
-  rising = λ k r is. subst (λ (x : Row). Rises (points_of files.base files.blocks (log_records files.batches) x.uid)) (only_row k r is) (tt, tt);
+  rising = λ k r is. subst (λ (x : Row). Rises (points_of_series files.base files.blocks (records_of_batches files.batches) x.uid)) (only_row k r is) (tt, tt);
 }
 
 its_map : map_of (store log_bytes) 1 0 ≡ Ok (recovered files names)
@@ -129,7 +128,7 @@ its_state = record { floor = refl; rows = rows } where
     by true e = rw e refl
     by false e = rw e refl
 
-pub it_holds : Holds 1 0 (store log_bytes) (record { slots = 4; floor = 0; next = 1; rows = []; shards = 0; shard = 0; since = 0; faults = 0; fit = false }) (change.Put (97 ∷ []) (key_of (97 ∷ [])) 10 1 ∷ [])
+pub it_holds : HoldsChanges 1 0 (store log_bytes) (record { slots = 4; floor = 0; next = 1; rows = []; shards = 0; shard = 0; since = 0; faults = 0; fit = false }) (change.Put (97 ∷ []) (key_of (97 ∷ [])) 10 1 ∷ [])
 it_holds = record { map = recovered files names; is = its_map; state = its_state }
 
 -- ---- the gate of the log shut: the key record is covered by no batch, and its number is used up
@@ -138,7 +137,7 @@ abbrev stale : Files
 stale = record { base = record { window = None; upto = 0 }; keys = (record { at = 10; it = Create 1 0 0 (97 ∷ []) }) ∷ []; blocks = []; batches = [] }
 
 stale_is_read : read_files (store (put_at 0 0 log_bytes)) (Home 1 0 ∷ []) ≡ Ok stale
-unfolding gates walk number_of keys_at keys_in each_within record_in series_in is_name is_utf8 chars encode
+unfolding gates walk number_of_bytes keys_at keys_in each_within key_record_in series_record_in is_name is_utf8 chars encode
 stale_is_read = refl
 
 stale_map : map_of (store (put_at 0 0 log_bytes)) 1 0 ≡ Ok (recovered stale no_names)
@@ -151,5 +150,5 @@ stale_next = refl
 -- ---- asked for as another shard
 
 other_home : map_of (store log_bytes) 2 0 ≡ Err (fault.Home 1 0 2 0)
-unfolding gates walk number_of mark_at mark_in kind_in home_in
+unfolding gates walk number_of_bytes mark_at mark_in kind_in home_in
 other_home = refl

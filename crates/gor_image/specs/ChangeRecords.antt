@@ -6,14 +6,14 @@ use Rattle.gor_model.specs.declared.event.Change.TheVariants as change
 use Rattle.gor_model.specs.declared.start.Row.{Row}
 use Rattle.gor_model.specs.declared.start.Start.{Start}
 use Rattle.gor_model.specs.PlainMap.{shard_floor, row_after, slots_after, next_change}
-use Rattle.gor_model.specs.Shares.{Besides, OfSeries, Begins, Frees, Buffered, besides_of}
+use Rattle.gor_model.specs.Shares.{Besides, OfSeries, Begins, Frees, Buffered, besides_of_change}
 use Rattle.gor_keys.specs.declared.record.KeyRecord.{KeyRecord}
 use Rattle.gor_keys.specs.declared.record.KeyRecord.TheVariants.{Create, Delete}
 use Rattle.gor_log.specs.declared.record.LogRecord.{LogRecord}
 use Rattle.gor_log.specs.declared.record.LogRecord.TheVariants.{Put, Floor, Seal}
-use Rattle.gor_log.specs.Spelling as log_spelling
+use Rattle.gor_log.specs.Spelling.{Batch}
 use Rattle.gor_log.specs.Reading.{batch}
-use Rattle.gor_image.specs.Records.{Placed, Batch}
+use Rattle.gor_image.specs.Records.{Placed, BatchInLog}
 
 -- a put of a key that is there has no key record, and one that begins a series has a Create
 abbrev pub begun_record : Start → List Change → List ℕ → Option Row → Option KeyRecord
@@ -37,24 +37,24 @@ log_record start C (change.Floor w) = Some (Floor w)
 log_record start C (change.Seal key w) = option_map (λ row. Seal row.uid w) (row_after start C key)
 
 -- those of the changes E that came after C, the oldest first
-abbrev pub key_records : Start → List Change → List Change → List KeyRecord
-key_records start C [] = []
-key_records start C (c ∷ E) = key_records start C E ++ cons_option (key_record start (E ++ C) c) []
+abbrev pub key_records_of : Start → List Change → List Change → List KeyRecord
+key_records_of start C [] = []
+key_records_of start C (c ∷ E) = key_records_of start C E ++ cons_option (key_record start (E ++ C) c) []
 
 abbrev pub log_records_of : Start → List Change → List Change → List LogRecord
 log_records_of start C [] = []
 log_records_of start C (c ∷ E) = log_records_of start C E ++ cons_option (log_record start (E ++ C) c) []
 
 -- these key records and this batch are those of the changes E, which came after C
-pub record AreOf (start : Start) (C E : List Change) (keys : List (Placed KeyRecord)) (batch : Batch) : Type 0 where
-  pub key_list : map (λ r. r.it) keys ≡ key_records start C E
+pub record AreRecordsOf (start : Start) (C E : List Change) (keys : List (Placed KeyRecord)) (batch : BatchInLog) : Type 0 where
+  pub key_list : map (λ r. r.it) keys ≡ key_records_of start C E
   pub records : map (λ r. r.it) batch.records ≡ log_records_of start C E
   pub first : batch.first ≡ next_change start C
   pub last : batch.last + 1 ≡ next_change start (E ++ C)
   pub some : batch.first ≤ batch.last
 
 -- their batch, which begins with the number of the first of them
-abbrev pub batch_of : Start → List Change → List Change → log_spelling.Batch
+abbrev pub batch_of : Start → List Change → List Change → Batch
 batch_of start C E = batch (next_change start C) (next_change start (E ++ C) - 1) (log_records_of start C E)
 
 -- ---- the same records by what a journal keeps beside each change
@@ -74,7 +74,7 @@ log_record_by c besides = None
 -- the changes E, which came after C, as they wait in a journal
 abbrev pub waiting_after : Start → List Change → List Change → List Buffered
 waiting_after start C [] = []
-waiting_after start C (c ∷ E) = record { change = c; besides = besides_of start (E ++ C) c } ∷ waiting_after start C E
+waiting_after start C (c ∷ E) = record { change = c; besides = besides_of_change start (E ++ C) c } ∷ waiting_after start C E
 
 abbrev pub key_records_by : ℕ → List Buffered → List KeyRecord
 key_records_by first [] = []

@@ -12,32 +12,32 @@ use Rattle.gor_model.specs.Windows.{window, window_end, kept}
 use Rattle.gor_disk.specs.declared.disk.FileId.{FileId}
 use Rattle.gor_disk.specs.declared.disk.FileId.TheVariants.{Marks, Keys, Log, Block}
 use Rattle.gor_disk.specs.Disk.{Contents}
-use Rattle.gor_gate.specs.Gates.{gates, pushed, ended, IsClosed}
+use Rattle.gor_gate.specs.Gates.{gates, body_pushed, ended_walk, IsClosed}
 use Rattle.gor_marks.specs.declared.mark.Mark.{Mark}
 use Rattle.gor_marks.specs.declared.mark.Mark.TheVariants.{Sealed}
-use Rattle.gor_marks.specs.Spelling.{spelling as mark_spelling}
+use Rattle.gor_marks.specs.Spelling.{mark_spelling}
 use Rattle.gor_keys.specs.declared.record.KeyRecord.{KeyRecord}
 use Rattle.gor_keys.specs.declared.record.KeyRecord.TheVariants.{Create, Delete, Live}
-use Rattle.gor_keys.specs.Spelling.{AreRecords, spelling}
+use Rattle.gor_keys.specs.Spelling.{AreRecords, keys_spelling}
 use Rattle.gor_log.specs.declared.record.LogRecord.{LogRecord}
-use Rattle.gor_slab.specs.Spelling.{Entry, IsFile}
-use Rattle.gor_slab.specs.Spelling.{spelling as file_spelling}
+use Rattle.gor_slab.specs.Spelling.{BlockEntry, IsFile}
+use Rattle.gor_slab.specs.Spelling.{slab_spelling}
 use Rattle.gor_block.specs.PointBlock.{PointBlock, IsBlock, IsBytesOf}
-use Rattle.gor_image.specs.Records.{Batch, BlockRow, Files}
-use Rattle.gor_image.specs.Recovery.{Names, is_above, block_points, points_of, log_records, names_of, recovered}
-use Rattle.gor_image.specs.Holding.{rows_of}
+use Rattle.gor_image.specs.Records.{BatchInLog, BlockRow, Files}
+use Rattle.gor_image.specs.Recovery.{Names, is_above, block_points, points_of_series, records_of_batches, names_of, recovered}
+use Rattle.gor_image.specs.Holding.{rows_of_map}
 use Rattle.gor_image.specs.Grammars.{rows_at}
 use Rattle.gor_image.specs.Images.{KeysRead, read_gated, read_keys, read_logs, read_blocks, read_files, live_windows, marks_of, base_of, first_log_of, remaining_logs, top_of}
 use Rattle.gor_image.specs.Appends.{keys_from}
-use Rattle.gor_image.specs.MarkLists.{MayFollow}
-use Rattle.gor_image.specs.Laws.{IsBefore, IsEmptyList}
+use Rattle.gor_image.specs.MarkLists.{MarkMayFollow}
+use Rattle.gor_image.specs.Laws.{MayBeWrittenOn, IsEmptyList}
 use Rattle.gor_image.specs.Turns.{is_up_to, is_live, HasNoneBehind, IsCopied, IsInFile, WindowRises, HasNew, live_record}
 
 -- ---- a new log
 
 -- a log with no batches adds none to those of the logs before it
 abbrev pub NewLogIsEmpty : Type 0
-NewLogIsEmpty = (image : Contents) (logs : List ℕ) (log : ℕ) (batches : List Batch) → IsEmptyList (gates (image (Log log))) → read_logs image logs [] ≡ Ok batches → read_logs image (logs ++ log ∷ []) [] ≡ Ok batches
+NewLogIsEmpty = (image : Contents) (logs : List ℕ) (log : ℕ) (batches : List BatchInLog) → IsEmptyList (gates (image (Log log))) → read_logs image logs [] ≡ Ok batches → read_logs image (logs ++ log ∷ []) [] ≡ Ok batches
 
 -- ---- a new key list
 
@@ -58,13 +58,13 @@ pub record ReadsLive (image : Contents) (k upto : ℕ) (live : List KeyRecord) :
 -- a key list whose one body spells such records is read as they are, whatever the last change number
 abbrev pub LiveListIsRead : Type 0
 LiveListIsRead = (image : Contents) (k upto : ℕ) (live : List KeyRecord) → AreRecords Second true live → AreLive None live
-    → gates (image (Keys k)) ≡ pushed (spelling Second live) (ended 0 true) → ReadsLive image k upto live
+    → gates (image (Keys k)) ≡ body_pushed (keys_spelling Second live) (ended_walk 0 true) → ReadsLive image k upto live
 
 -- ---- block files
 
 -- with a mark that follows, the live block files are those that are not too old for its window, and its own
 abbrev pub BlocksStayLive : Type 0
-BlocksStayLive = (image : Contents) (marks : List Mark) (w k upto first_log : ℕ) (old fresh : List BlockRow) → MayFollow marks (Sealed w k upto first_log)
+BlocksStayLive = (image : Contents) (marks : List Mark) (w k upto first_log : ℕ) (old fresh : List BlockRow) → MarkMayFollow marks (Sealed w k upto first_log)
     → read_blocks image (live_windows marks) ≡ Ok old → rows_at w (image (Block w)) ≡ Ok fresh
     → read_blocks image (live_windows (marks ++ Sealed w k upto first_log ∷ [])) ≡ Ok (filter (is_live w) old ++ fresh)
 
@@ -87,8 +87,8 @@ IsUpTo w (Some v) = v ≤ w
 
 -- where the greatest windows of the earlier logs are not behind a window, no record of theirs is
 abbrev pub LowTopsHaveNoneBehind : Type 0
-LowTopsHaveNoneBehind = (image : Contents) (w : ℕ) (earlier later : List ℕ) (batches dropped : List Batch) → read_logs image (earlier ++ later) [] ≡ Ok batches → read_logs image earlier [] ≡ Ok dropped
-    → AllByRecursion (λ log. IsUpTo w (top_of log batches)) earlier → AllByRecursion (HasNoneBehind w) (log_records dropped)
+LowTopsHaveNoneBehind = (image : Contents) (w : ℕ) (earlier later : List ℕ) (batches dropped : List BatchInLog) → read_logs image (earlier ++ later) [] ≡ Ok batches → read_logs image earlier [] ≡ Ok dropped
+    → AllByRecursion (λ log. IsUpTo w (top_of log batches)) earlier → AllByRecursion (HasNoneBehind w) (records_of_batches dropped)
 
 -- ---- the points of a series
 
@@ -99,7 +99,7 @@ is_between last w p = is_above last (window p.time) && is_up_to w p
 -- The new rows of a series are the points that are kept of it, behind the last mark's window up to this one.
 abbrev pub AreCopiesOf : Files → ℕ → ℕ → List BlockRow → Type 0
 AreCopiesOf files w uid fresh =
-    flat_map (block_points uid) fresh ≡ filter (is_between files.base.window w) (kept (window_end w) (points_of files.base files.blocks (log_records files.batches) uid))
+    flat_map (block_points uid) fresh ≡ filter (is_between files.base.window w) (kept (window_end w) (points_of_series files.base files.blocks (records_of_batches files.batches) uid))
 
 -- no block of the files has a point behind the last mark's window
 abbrev pub AreOldBlocks : Files → Type 0
@@ -107,19 +107,19 @@ AreOldBlocks files = AllByRecursion IsInFile files.blocks × AllByRecursion (λ 
 
 -- then they have what the logs have up to the window
 abbrev pub SealsAreCopied : Type 0
-SealsAreCopied = (files : Files) (w uid : ℕ) (fresh : List BlockRow) → AreOldBlocks files → AreCopiesOf files w uid fresh → IsCopied files.base w uid fresh (log_records files.batches)
+SealsAreCopied = (files : Files) (w uid : ℕ) (fresh : List BlockRow) → AreOldBlocks files → AreCopiesOf files w uid fresh → IsCopied files.base w uid fresh (records_of_batches files.batches)
 
 -- and with them the points of the series rise as they did
 abbrev pub SeriesRise : Type 0
 SeriesRise = (files : Files) (w upto uid : ℕ) (fresh : List BlockRow) (dropped remaining : List LogRecord) → AreOldBlocks files → AreCopiesOf files w uid fresh → WindowRises files.base.window w
-    → log_records files.batches ≡ dropped ++ remaining → AllByRecursion (HasNoneBehind w) dropped
-    → EachBefore (λ p q. p.time < q.time) (points_of files.base files.blocks (log_records files.batches) uid)
-    → EachBefore (λ p q. p.time < q.time) (points_of (record { window = Some w; upto = upto }) (filter (is_live w) files.blocks ++ fresh) remaining uid)
+    → records_of_batches files.batches ≡ dropped ++ remaining → AllByRecursion (HasNoneBehind w) dropped
+    → EachBefore (λ p q. p.time < q.time) (points_of_series files.base files.blocks (records_of_batches files.batches) uid)
+    → EachBefore (λ p q. p.time < q.time) (points_of_series (record { window = Some w; upto = upto }) (filter (is_live w) files.blocks ++ fresh) remaining uid)
 
 -- ---- a new block file
 
 -- the entries are those of these blocks, each with the uid of its series
-abbrev pub AreEntriesOf : List Entry → List (ℕ × PointBlock) → Type 0
+abbrev pub AreEntriesOf : List BlockEntry → List (ℕ × PointBlock) → Type 0
 AreEntriesOf [] [] = ⊤
 AreEntriesOf (e ∷ es) (b ∷ blocks) = (e.uid ≡ b.0) × (e.window ≡ b.1.window) × (b.1.unit ≡ Second) × IsBlock b.1 × IsBytesOf b.1 e.block × AreEntriesOf es blocks
 AreEntriesOf [] (b ∷ blocks) = ⊥
@@ -139,7 +139,7 @@ pub record ReadsBlocks (w : ℕ) (bytes : List ℕ) (blocks : List (ℕ × Point
 
 -- a block file that spells the bytes of blocks is read as these blocks
 abbrev pub BlockFileIsRead : Type 0
-BlockFileIsRead = (w : ℕ) (entries : List Entry) (blocks : List (ℕ × PointBlock)) → IsFile w entries → AreEntriesOf entries blocks → ReadsBlocks w (file_spelling Second entries) blocks
+BlockFileIsRead = (w : ℕ) (entries : List BlockEntry) (blocks : List (ℕ × PointBlock)) → IsFile w entries → AreEntriesOf entries blocks → ReadsBlocks w (slab_spelling Second entries) blocks
 
 -- ---- the names
 
@@ -150,20 +150,20 @@ pub record IsOfRow (rows : List ℕ → Option Row) (r : KeyRecord) : Type 0 whe
   pub there : rows key ≡ Some row
   pub is : live_record (key, row) ≡ r
 
-abbrev pub IsAmong : KeyRecord → List KeyRecord → Type 0
-IsAmong r [] = ⊥
-IsAmong r (x ∷ more) = (r ≡ x) ⊎ IsAmong r more
+abbrev pub RecordIsAmong : KeyRecord → List KeyRecord → Type 0
+RecordIsAmong r [] = ⊥
+RecordIsAmong r (x ∷ more) = (r ≡ x) ⊎ RecordIsAmong r more
 
 -- the records are the Live records of these rows
 pub record AreNamesOf (rows : List ℕ → Option Row) (live : List KeyRecord) : Type 0 where
   pub each : AllByRecursion (IsOfRow rows) live
-  pub all : (key : List ℕ) (row : Row) → rows key ≡ Some row → IsAmong (live_record (key, row)) live
+  pub all : (key : List ℕ) (row : Row) → rows key ≡ Some row → RecordIsAmong (live_record (key, row)) live
 
 -- Live records in rising slots, one for each row that an image holds after some changes, are the names that its files have.
 abbrev pub LiveRecordsAreNames : Type 0
 LiveRecordsAreNames = (shards shard : ℕ) (image : Contents) (m : Mark) (marks : List Mark) (start : Start) (C : List Change) (files : Files) (names : Names) (live : List KeyRecord)
-    → IsBefore shards shard image (m ∷ marks) start C → read_files image (m ∷ marks) ≡ Ok files → names_of files ≡ Ok names → AreLive None live → AreNamesOf (kept_row_after start C) live
-    → map live_record (rows_of (recovered files names)) ≡ live
+    → MayBeWrittenOn shards shard image (m ∷ marks) start C → read_files image (m ∷ marks) ≡ Ok files → names_of files ≡ Ok names → AreLive None live → AreNamesOf (kept_row_after start C) live
+    → map live_record (rows_of_map (recovered files names)) ≡ live
 
 -- ---- the new files are there
 
@@ -185,20 +185,20 @@ pub record HasFinished (image : Contents) (marks : List Mark) (w k first_log : �
   pub limits : AreRecords Second true live
   pub slots : AreLive None live
   pub names : AreNamesOf (kept_row_after start C) live
-  pub keys : gates (image (Keys k)) ≡ pushed (spelling Second live) (ended 0 true)
+  pub keys : gates (image (Keys k)) ≡ body_pushed (keys_spelling Second live) (ended_walk 0 true)
   pub log : IsEmptyList (gates (image (Log k)))
   pub fresh : List BlockRow
   pub block : rows_at w (image (Block w)) ≡ Ok fresh
   pub own : AllByRecursion (IsOwn start C) fresh
   pub copies : (key : List ℕ) (row : Row) → kept_row_after start C key ≡ Some row → flat_map (block_points row.uid) fresh ≡ filter (is_between (base_of marks).window w) row.points
-  pub batches : List Batch
+  pub batches : List BatchInLog
   pub logs : read_logs image (remaining_logs marks) [] ≡ Ok batches
   pub tops : (l : ℕ) → first_log_of marks ≤ l → l < first_log → IsUpTo w (top_of l batches)
 
 -- then the files that the mark names are there, and turn
 abbrev pub NewFilesAreThere : Type 0
 NewFilesAreThere = (shards shard : ℕ) (image : Contents) (m : Mark) (marks : List Mark) (w k upto first_log : ℕ) (start : Start) (C : List Change)
-    → IsBefore shards shard image (m ∷ marks) start C → MayFollow (m ∷ marks) (Sealed w k upto first_log) → next_change start C ≤ upto + 1
+    → MayBeWrittenOn shards shard image (m ∷ marks) start C → MarkMayFollow (m ∷ marks) (Sealed w k upto first_log) → next_change start C ≤ upto + 1
     → HasFinished image (m ∷ marks) w k first_log start C → HasNew image (m ∷ marks) (m ∷ (marks ++ Sealed w k upto first_log ∷ [])) w upto
 
 -- ---- the mark
@@ -207,18 +207,18 @@ NewFilesAreThere = (shards shard : ℕ) (image : Contents) (m : Mark) (marks : L
 -- same state by these marks and can be written on.
 abbrev pub FinishTurns : Type 0
 FinishTurns = (shards shard : ℕ) (given image : Contents) (m : Mark) (marks : List Mark) (w k upto first_log : ℕ) (start : Start) (C : List Change)
-    → IsBefore shards shard given (m ∷ marks) start C → MayFollow (m ∷ marks) (Sealed w k upto first_log) → next_change start C ≡ upto + 1
+    → MayBeWrittenOn shards shard given (m ∷ marks) start C → MarkMayFollow (m ∷ marks) (Sealed w k upto first_log) → next_change start C ≡ upto + 1
     → HasFinished given (m ∷ marks) w k first_log start C → IsClosed (given (Keys k)) → IsClosed (given (Log k))
-    → gates (image Marks) ≡ pushed (mark_spelling (Sealed w k upto first_log)) (gates (given Marks)) → IsClosed (image Marks) → ((file : FileId) → file ≢ Marks → image file ≡ given file)
-    → IsBefore shards shard image (m ∷ (marks ++ Sealed w k upto first_log ∷ [])) start C
+    → gates (image Marks) ≡ body_pushed (mark_spelling (Sealed w k upto first_log)) (gates (given Marks)) → IsClosed (image Marks) → ((file : FileId) → file ≢ Marks → image file ≡ given file)
+    → MayBeWrittenOn shards shard image (m ∷ (marks ++ Sealed w k upto first_log ∷ [])) start C
 
 -- the logs that remain with the mark are read as such batches, with the greatest windows that they had, and the new one with none
-pub record ReadsRemaining (image : Contents) (marks : List Mark) (k first_log : ℕ) (batches : List Batch) : Type 0 where
-  pub remaining : List Batch
+pub record ReadsRemaining (image : Contents) (marks : List Mark) (k first_log : ℕ) (batches : List BatchInLog) : Type 0 where
+  pub remaining : List BatchInLog
   pub read : read_logs image (remaining_logs marks) [] ≡ Ok remaining
   pub same : (log : ℕ) → first_log ≤ log → top_of log remaining ≡ top_of log batches
   pub none : top_of k remaining ≡ None
 
 abbrev pub TopsStay : Type 0
-TopsStay = (image : Contents) (marks : List Mark) (w k upto first_log : ℕ) (batches : List Batch) → MayFollow marks (Sealed w k upto first_log) → read_logs image (remaining_logs marks) [] ≡ Ok batches
+TopsStay = (image : Contents) (marks : List Mark) (w k upto first_log : ℕ) (batches : List BatchInLog) → MarkMayFollow marks (Sealed w k upto first_log) → read_logs image (remaining_logs marks) [] ≡ Ok batches
     → IsEmptyList (gates (image (Log k))) → ReadsRemaining image (marks ++ Sealed w k upto first_log ∷ []) k first_log batches

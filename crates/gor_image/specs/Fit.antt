@@ -9,7 +9,7 @@ use Rattle.gor_marks.specs.declared.mark.Mark.{Mark}
 use Rattle.gor_image.specs.Records.{Files}
 use Rattle.gor_image.specs.Recovery.{Names, names_of, recovered}
 use Rattle.gor_image.specs.Holding.{IsFit}
-use Rattle.gor_image.specs.Images.{Holds, current, base_of, same_home, read_files, map_of_files, marks_of}
+use Rattle.gor_image.specs.Images.{HoldsChanges, current, base_of, same_home, read_files, map_of_files, marks_of}
 
 -- where a mark is sealed, the current key list has a body
 abbrev pub HasBody : Option ℕ → List (ℕ × List ℕ) → Type 0
@@ -44,4 +44,4 @@ pub record IsFitFor (shards shard : ℕ) (image : Contents) : Type 0 where
 -- it is fit, and holds the state after some changes from a start
 pub record FitHolds (shards shard : ℕ) (image : Contents) (start : Start) (C : List Change) : Type 0 where
   pub fit : IsFitFor shards shard image
-  pub holds : Holds shards shard image start C
+  pub holds : HoldsChanges shards shard image start C

@@ -9,16 +9,16 @@ use Rattle.gor_model.specs.declared.wrong.Misread.{Misread}
 use Rattle.gor_marks.specs.declared.mark.Mark.{Mark}
 use Rattle.gor_marks.specs.Reading.{mark_in}
 use Rattle.gor_keys.specs.declared.record.KeyRecord.{KeyRecord}
-use Rattle.gor_keys.specs.Spelling.{record_spelling}
+use Rattle.gor_keys.specs.Spelling.{key_record_spelling}
 use Rattle.gor_keys.specs.Reading.{keys_in}
 use Rattle.gor_log.specs.declared.record.LogRecord.{LogRecord}
-use Rattle.gor_log.specs.Spelling as log_spelling
+use Rattle.gor_log.specs.Spelling.{log_record_spelling, Batch}
 use Rattle.gor_log.specs.Reading.{log_in}
 use Rattle.gor_slab.specs.declared.row.SlabRow.{SlabRow}
 use Rattle.gor_slab.specs.Reading.{Index, unit_in, index_in, block_of}
 use Rattle.gor_image.specs.declared.fault.DamageKind.{DamageKind}
 use Rattle.gor_image.specs.declared.fault.DamageKind.TheVariants as damage
-use Rattle.gor_image.specs.Records.{Placed, Batch, BlockRow}
+use Rattle.gor_image.specs.Records.{Placed, BatchInLog, BlockRow}
 use Rattle.gor_image.specs.Blocks.{points_in}
 
 -- ---- one thing after another; the first refusal is the answer
@@ -31,8 +31,8 @@ and_then (Err f) next = Err f
 abbrev pub Reads : Type 0 → Type 0
 Reads X = Result X (Placed DamageKind)
 
-abbrev pub wrong : {A : Type 0} → ℕ → DamageKind → Reads A
-wrong at kind = Err (record { at = at; it = kind })
+abbrev pub damage_at : {A : Type 0} → ℕ → DamageKind → Reads A
+damage_at at kind = Err (record { at = at; it = kind })
 
 -- ---- faults of bodies as damage of their files
 
@@ -48,7 +48,7 @@ damage_of wrongs.Padding = damage.Padding
 -- of what begins at this place
 abbrev pub from : {A : Type 0} → ℕ → Result A Misread → Reads A
 from at (Ok a) = Ok a
-from at (Err misread) = wrong (at + misread.at) (damage_of misread.kind)
+from at (Err misread) = damage_at (at + misread.at) (damage_of misread.kind)
 
 -- ---- bodies of gated files, from the place where they begin
 
@@ -58,7 +58,7 @@ mark_at first at body = from at (mark_in first body)
 -- each record of a key list with the place of its kind byte, the first of them at this place
 abbrev pub keys_placed : TimeUnit → ℕ → List KeyRecord → List (Placed KeyRecord)
 keys_placed unit at [] = []
-keys_placed unit at (r ∷ records) = record { at = at; it = r } ∷ keys_placed unit (at + length (record_spelling unit r)) records
+keys_placed unit at (r ∷ records) = record { at = at; it = r } ∷ keys_placed unit (at + length (key_record_spelling unit r)) records
 
 -- the version of bodies whose floors are in milliseconds
 abbrev pub is_of_millis : List ℕ → Bool
@@ -68,20 +68,20 @@ is_of_millis (version ∷ rest) = version == 2
 -- a body in milliseconds has no version that is known here, whatever follows
 unfoldable pub keys_at : Bool → ℕ → List ℕ → Reads (List (Placed KeyRecord))
 keys_at live at body =
-    if is_of_millis body then wrong at damage.Version
+    if is_of_millis body then damage_at at damage.Version
     else and_then (from at (keys_in live body)) (λ keys. Ok (keys_placed keys.unit (at + 1) keys.records))
 
 -- Each record of a batch in the one form of its records, the first of them at this place. That the time of a put does not
 -- rise is told at the time, behind the kind byte and the uid.
 abbrev pub records_placed : ℕ → List LogRecord → List (Placed LogRecord)
 records_placed at [] = []
-records_placed at (r ∷ records) = record { at = at + 9; it = r } ∷ records_placed (at + length (log_spelling.record_spelling r)) records
+records_placed at (r ∷ records) = record { at = at + 9; it = r } ∷ records_placed (at + length (log_record_spelling r)) records
 
 -- a batch of the log of this number
-abbrev pub batch_placed : ℕ → ℕ → log_spelling.Batch → Batch
+abbrev pub batch_placed : ℕ → ℕ → Batch → BatchInLog
 batch_placed log at batch = record { log = log; first = batch.first; last = batch.last; records = records_placed (at + 17) batch.records }
 
-unfoldable pub log_at : ℕ → ℕ → List ℕ → Reads Batch
+unfoldable pub log_at : ℕ → ℕ → List ℕ → Reads BatchInLog
 log_at log at body = and_then (from at (log_in body)) (λ batch. Ok (batch_placed log at batch))
 
 -- ---- the block file of a window
@@ -89,7 +89,7 @@ log_at log at body = and_then (from at (log_in body)) (λ batch. Ok (batch_place
 -- a row at its place, with the points of its block
 abbrev pub row_read : ℕ → ℕ → List ℕ → SlabRow → Option (List Point) → Reads BlockRow
 row_read w at bytes row (Some points) = Ok (record { file = w; at = at; uid = row.uid; window = row.window; points = points })
-row_read w at bytes row None = wrong (24 + row.place) damage.Block
+row_read w at bytes row None = damage_at (24 + row.place) damage.Block
 
 abbrev pub rows_read : ℕ → ℕ → List ℕ → List SlabRow → Reads (List BlockRow)
 rows_read w at bytes [] = Ok []
@@ -104,7 +104,7 @@ first_row_at bytes rows = length bytes - length rows * 24
 -- the times of its blocks are in the store's unit
 abbrev pub in_seconds : TimeUnit → Result Index Misread → Reads Index
 in_seconds Second index = from 0 index
-in_seconds Milli index = wrong 0 damage.Version
+in_seconds Milli index = damage_at 0 damage.Version
 
 unfoldable pub rows_at : ℕ → List ℕ → Reads (List BlockRow)
 rows_at w bytes =

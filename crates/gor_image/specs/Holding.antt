@@ -11,8 +11,8 @@ use Rattle.gor_keys.specs.declared.record.KeyRecord.{KeyRecord}
 use Rattle.gor_keys.specs.declared.record.KeyRecord.TheVariants.{Create, Delete, Live}
 use Rattle.gor_log.specs.declared.record.LogRecord.{LogRecord}
 use Rattle.gor_log.specs.declared.record.LogRecord.TheVariants.{Put, Floor, Seal}
-use Rattle.gor_image.specs.Records.{Placed, Batch, Files}
-use Rattle.gor_image.specs.Recovery.{Names, names_of, number_in, log_records, points_of, base_end, next_of, recovered, ShardMap}
+use Rattle.gor_image.specs.Records.{Placed, BatchInLog, Files}
+use Rattle.gor_image.specs.Recovery.{Names, names_of, change_number_in, records_of_batches, points_of_series, base_end, next_of, recovered, ShardMap}
 
 -- numbers of key records rise, and are above the last mark's
 abbrev pub RiseAbove : ℕ → List ℕ → Type 0
@@ -20,7 +20,7 @@ RiseAbove n [] = ⊤
 RiseAbove n (m ∷ more) = (n < m) × RiseAbove m more
 
 -- each batch has numbers, above those of the batch before it
-abbrev pub BatchesRise : ℕ → List Batch → Type 0
+abbrev pub BatchesRise : ℕ → List BatchInLog → Type 0
 BatchesRise n [] = ⊤
 BatchesRise n (b ∷ more) = (n < b.first) × (b.first ≤ b.last) × BatchesRise b.last more
 
@@ -36,10 +36,10 @@ IsKeyUidBelow n (Live uid slot floor name) = uid < n
 
 -- the files recover to this map, with no damage
 pub record RecoverTo (files : Files) (names : Names) : Type 0 where
-  pub numbers : RiseAbove files.base.upto (filter_map (λ r. number_in r.it) files.keys)
+  pub numbers : RiseAbove files.base.upto (filter_map (λ r. change_number_in r.it) files.keys)
   pub batches : BatchesRise 0 files.batches
   pub reads : names_of files ≡ Ok names
-  pub rising : (key : List ℕ) (row : Row) → names.row key ≡ Some row → EachBefore (λ p q. p.time < q.time) (points_of files.base files.blocks (log_records files.batches) row.uid)
+  pub rising : (key : List ℕ) (row : Row) → names.row key ≡ Some row → EachBefore (λ p q. p.time < q.time) (points_of_series files.base files.blocks (records_of_batches files.batches) row.uid)
 
 -- they hold the state after some changes from a start
 pub record HoldsState (map : ShardMap) (start : Start) (C : List Change) : Type 0 where
@@ -52,7 +52,7 @@ pub record IsFit (files : Files) (map : ShardMap) : Type 0 where
   pub floors : (key : List ℕ) (row : Row) → map.row key ≡ Some row → (base_end files.base.window ≤ row.floor) × (row.floor ≤ map.floor)
   pub uids_differ : (k l : List ℕ) (row other : Row) → map.row k ≡ Some row → map.row l ≡ Some other → row.uid ≡ other.uid → k ≡ l
   pub key_uids : AllByRecursion (λ r. IsKeyUidBelow map.next r.it) files.keys
-  pub log_uids : AllByRecursion (IsUidBelow map.next) (log_records files.batches)
+  pub log_uids : AllByRecursion (IsUidBelow map.next) (records_of_batches files.batches)
   pub block_uids : AllByRecursion (λ b. b.uid < map.next) files.blocks
 
 -- the files hold the state after these changes, are fit, and no number of theirs is one that the next change takes
@@ -67,7 +67,7 @@ pub record Stand (files : Files) (start : Start) (C : List Change) : Type 0 wher
 abbrev pub with_keys : Files → List (Placed KeyRecord) → Files
 with_keys files keys = record files { keys = files.keys ++ keys }
 
-abbrev pub with_batch : Files → Batch → Files
+abbrev pub with_batch : Files → BatchInLog → Files
 with_batch files batch = record files { batches = files.batches ++ batch ∷ [] }
 
 -- the files hold the state after these changes, and are fit
@@ -83,8 +83,8 @@ abbrev pub row_at : ShardMap → ℕ → Option (List ℕ × Row)
 row_at map slot = option_and_then (λ key. option_map (λ row. (key, row)) (map.row key)) (map.holder slot)
 
 -- the rows by rising slot
-unfoldable pub rows_of : ShardMap → List (List ℕ × Row)
-rows_of map = filter_map (row_at map) (range_with_len 0 slots_of_a_shard)
+unfoldable pub rows_of_map : ShardMap → List (List ℕ × Row)
+rows_of_map map = filter_map (row_at map) (range_with_len 0 slots_of_a_shard)
 
-abbrev pub start_of : ℕ → ShardMap → Start
-start_of slots map = record { slots = slots; floor = map.floor; next = map.next; rows = rows_of map; shards = 0; shard = 0; since = 0; faults = 0; fit = false }
+abbrev pub start_of_map : ℕ → ShardMap → Start
+start_of_map slots map = record { slots = slots; floor = map.floor; next = map.next; rows = rows_of_map map; shards = 0; shard = 0; since = 0; faults = 0; fit = false }

@@ -21,10 +21,10 @@ use Rattle.gor_image.specs.declared.fault.DamageKind.{DamageKind}
 use Rattle.gor_image.specs.declared.fault.DamageKind.TheVariants.{Cut, Order, Slot, Name}
 use Rattle.gor_image.specs.declared.fault.ImageFault.{ImageFault}
 use Rattle.gor_image.specs.declared.fault.ImageFault.TheVariants as fault
-use Rattle.gor_image.specs.Records.{Placed, Batch, BlockRow, Base, Files}
+use Rattle.gor_image.specs.Records.{Placed, BatchInLog, BlockRow, Base, Files}
 use Rattle.gor_image.specs.Recovery.{Names, WrongName, WrongSlot, SameName, names_of, is_above, put_point, ShardMap, recovered}
-use Rattle.gor_image.specs.Grammars.{Reads, and_then, wrong, mark_at, keys_at, log_at, rows_at}
-use Rattle.gor_image.specs.Holding.{HoldsState, rows_of}
+use Rattle.gor_image.specs.Grammars.{Reads, and_then, damage_at, mark_at, keys_at, log_at, rows_at}
+use Rattle.gor_image.specs.Holding.{HoldsState, rows_of_map}
 
 abbrev pub in_file : {A : Type 0} → FileId → Reads A → Result A ImageFault
 in_file file (Ok a) = Ok a
@@ -38,7 +38,7 @@ read_bodies read s [] = Ok s
 read_bodies read s (body ∷ bodies) = and_then (read s (body.0 + 9) body.1) (λ t. read_bodies read t bodies)
 
 abbrev pub read_walk : {S : Type 0} → (S → ℕ → List ℕ → Reads S) → S → Walk → Reads S
-read_walk read s walk = if walk.whole then read_bodies read s walk.bodies else wrong walk.end Cut
+read_walk read s walk = if walk.whole then read_bodies read s walk.bodies else damage_at walk.end Cut
 
 abbrev pub read_gated : {S : Type 0} → Contents → (S → ℕ → List ℕ → Reads S) → FileId → S → Result S ImageFault
 read_gated image read file s = in_file file (read_walk read s (gates (image file)))
@@ -84,10 +84,10 @@ live_windows marks = filter (λ w. nat_lt (or_zero (base_of marks).window) (w + 
 abbrev pub mark_after : List Mark → ℕ → Mark → Reads (List Mark)
 mark_after marks at (Home n s) = Ok (marks ++ Home n s ∷ [])
 mark_after marks at (Sealed w k u f) =
-    if not (is_above (base_of marks).window w) then wrong (at + 2) Order
-    else if not (nat_eq k (current marks + 1)) then wrong (at + 6) Order
-    else if nat_lt u (base_of marks).upto then wrong (at + 10) Order
-    else if nat_lt f (first_log_of marks) then wrong (at + 18) Order
+    if not (is_above (base_of marks).window w) then damage_at (at + 2) Order
+    else if not (nat_eq k (current marks + 1)) then damage_at (at + 6) Order
+    else if nat_lt u (base_of marks).upto then damage_at (at + 10) Order
+    else if nat_lt f (first_log_of marks) then damage_at (at + 18) Order
     else Ok (marks ++ Sealed w k u f ∷ [])
 
 abbrev pub is_none : List Mark → Bool
@@ -115,9 +115,9 @@ pub record KeysRead : Type 0 where
 
 -- a number is above that before it and above the last mark's, and slots of Live records rise
 abbrev pub key_after : KeysRead → ℕ → KeyRecord → Reads KeysRead
-key_after st at (Create n s f name) = if nat_lt st.number n then Ok (record st { number = n }) else wrong (at + 1) Order
-key_after st at (Delete n s) = if nat_lt st.number n then Ok (record st { number = n }) else wrong (at + 1) Order
-key_after st at (Live u s f name) = if is_above st.slot s then Ok (record st { slot = Some s }) else wrong (at + 9) Order
+key_after st at (Create n s f name) = if nat_lt st.number n then Ok (record st { number = n }) else damage_at (at + 1) Order
+key_after st at (Delete n s) = if nat_lt st.number n then Ok (record st { number = n }) else damage_at (at + 1) Order
+key_after st at (Live u s f name) = if is_above st.slot s then Ok (record st { slot = Some s }) else damage_at (at + 9) Order
 
 abbrev pub keys_after : KeysRead → List (Placed KeyRecord) → Reads KeysRead
 keys_after st [] = Ok st
@@ -130,15 +130,15 @@ read_keys sealed st at body = and_then (keys_at (sealed && nat_eq st.bodies 0) a
 
 -- ---- logs and block files
 
-abbrev pub last_number : List Batch → ℕ
+abbrev pub last_number : List BatchInLog → ℕ
 last_number batches = or_zero (option_map (λ b. b.last) (last_of batches))
 
 -- a batch after others, of this log and of those before it
-abbrev pub read_batch : ℕ → List Batch → ℕ → List ℕ → Reads (List Batch)
+abbrev pub read_batch : ℕ → List BatchInLog → ℕ → List ℕ → Reads (List BatchInLog)
 read_batch log batches at body = and_then (log_at log at body)
-    (λ b. if nat_lt (last_number batches) b.first then Ok (batches ++ b ∷ []) else wrong (at + 1) Order)
+    (λ b. if nat_lt (last_number batches) b.first then Ok (batches ++ b ∷ []) else damage_at (at + 1) Order)
 
-abbrev pub read_logs : Contents → List ℕ → List Batch → Result (List Batch) ImageFault
+abbrev pub read_logs : Contents → List ℕ → List BatchInLog → Result (List BatchInLog) ImageFault
 read_logs image [] batches = Ok batches
 read_logs image (log ∷ logs) batches = and_then (read_gated image (read_batch log) (Log log) batches) (λ more. read_logs image logs more)
 
@@ -159,22 +159,22 @@ read_files image marks =
 -- ---- points that do not rise
 
 -- a point, and the place of the put, or of the row of its block
-pub record Found : Type 0 where
+pub record FoundPoint : Type 0 where
   pub file : FileId
   pub at : ℕ
   pub point : Point
 
-abbrev pub block_found : ℕ → BlockRow → List Found
+abbrev pub block_found : ℕ → BlockRow → List FoundPoint
 block_found uid row = if nat_eq uid row.uid then map (λ p. record { file = Block row.file; at = row.at; point = p }) row.points else []
 
-abbrev pub put_found : Base → ℕ → ℕ → Placed LogRecord → Option Found
+abbrev pub put_found : Base → ℕ → ℕ → Placed LogRecord → Option FoundPoint
 put_found base uid log r = option_map (λ p. record { file = Log log; at = r.at; point = p }) (put_point base uid r.it)
 
-abbrev pub found_of : Files → ℕ → List Found
+abbrev pub found_of : Files → ℕ → List FoundPoint
 found_of files uid = flat_map (block_found uid) files.blocks ++ flat_map (λ b. filter_map (put_found files.base uid b.log) b.records) files.batches
 
 -- each point is later than the one before it
-abbrev pub found_rise : Option ℕ → List Found → Result ⊤ ImageFault
+abbrev pub found_rise : Option ℕ → List FoundPoint → Result ⊤ ImageFault
 found_rise last [] = Ok tt
 found_rise last (x ∷ xs) = if is_above last x.point.time then found_rise (Some x.point.time) xs else Err (fault.Damage x.file x.at Order)
 
@@ -219,7 +219,7 @@ map_of image shards shard = and_then (marks_of image) (map_of_marks image shards
 
 -- The map that an opening with so many slots gives, or the first refusal.
 abbrev pub slots_needed : ShardMap → ℕ
-slots_needed m = greatest 0 (map (λ r. r.1.slot + 1) (rows_of m))
+slots_needed m = greatest 0 (map (λ r. r.1.slot + 1) (rows_of_map m))
 
 abbrev pub with_limits : ℕ → ShardMap → Result ShardMap ImageFault
 with_limits slots m =
@@ -239,11 +239,11 @@ abbrev pub greatest_of : List ℕ → Option ℕ
 greatest_of [] = None
 greatest_of (n ∷ more) = Some (greatest n more)
 
-abbrev pub top_of : ℕ → List Batch → Option ℕ
+abbrev pub top_of : ℕ → List BatchInLog → Option ℕ
 top_of log batches = greatest_of (filter_map put_window (flat_map (λ b. map (λ r. r.it) b.records) (filter (λ b. nat_eq b.log log) batches)))
 
 -- an image holds the state after some changes from a start
-pub record Holds (shards shard : ℕ) (image : Contents) (start : Start) (C : List Change) : Type 0 where
+pub record HoldsChanges (shards shard : ℕ) (image : Contents) (start : Start) (C : List Change) : Type 0 where
   pub map : ShardMap
   pub is : map_of image shards shard ≡ Ok map
   pub state : HoldsState map start C

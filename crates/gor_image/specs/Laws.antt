@@ -13,21 +13,20 @@ use Rattle.gor_model.specs.States.{IsFirstOf}
 use Rattle.gor_model.specs.PlainMap.{next_change}
 use Rattle.gor_disk.specs.declared.disk.FileId.TheVariants.{Marks, Keys, Log, Block}
 use Rattle.gor_disk.specs.Disk.{Contents}
-use Rattle.gor_gate.specs.Gates.{Walk, gates, pushed, IsClosed}
+use Rattle.gor_gate.specs.Gates.{Walk, gates, body_pushed, IsClosed}
 use Rattle.gor_marks.specs.declared.mark.Mark.{Mark}
 use Rattle.gor_marks.specs.declared.mark.Mark.TheVariants.{Home}
-use Rattle.gor_keys.specs.Spelling.{AreRecords, spelling}
-use Rattle.gor_log.specs.Spelling.{IsBatch}
-use Rattle.gor_log.specs.Spelling as log_spelling
+use Rattle.gor_keys.specs.Spelling.{AreRecords, keys_spelling}
+use Rattle.gor_log.specs.Spelling.{IsBatch, batch_spelling}
 use Rattle.gor_block.specs.PointBlock.{PointBlock, IsBlock, IsBytesOf}
 use Rattle.gor_image.specs.Blocks.{points_in}
 use Rattle.gor_image.specs.Recovery.{ShardMap}
 use Rattle.gor_image.specs.declared.fault.ImageFault.TheVariants as fault
-use Rattle.gor_image.specs.Images.{marks_of, map_of, opens_to, current, fresh_map, Holds}
-use Rattle.gor_image.specs.Holding.{start_of}
+use Rattle.gor_image.specs.Images.{marks_of, map_of, opens_to, current, fresh_map, HoldsChanges}
+use Rattle.gor_image.specs.Holding.{start_of_map}
 use Rattle.gor_image.specs.Fit.{IsFitFor, FitHolds}
-use Rattle.gor_image.specs.Appends.{OthersStay}
-use Rattle.gor_image.specs.ChangeRecords.{key_records, log_records_of, batch_of, waiting_after, key_records_by, log_records_by}
+use Rattle.gor_image.specs.Appends.{OtherListsStay}
+use Rattle.gor_image.specs.ChangeRecords.{key_records_of, log_records_of, batch_of, waiting_after, key_records_by, log_records_by}
 
 -- the gated files have the same lists, and the block files are the same
 pub record HaveSameLists (image after : Contents) : Type 0 where
@@ -47,12 +46,12 @@ pub record Follow (start : Start) (C E : List Change) : Type 0 where
   pub legal : Legal start history
   pub changes_are : changes history ≡ E ++ C
   pub some : E ≢ []
-  pub keys : AreRecords Second false (key_records start C E)
+  pub keys : AreRecords Second false (key_records_of start C E)
   pub batch : IsBatch (batch_of start C E)
 
 -- An image is fit and holds the state after the changes C, these are its marks, and no number of its files is one that the
 -- next change takes.
-pub record IsBefore (shards shard : ℕ) (image : Contents) (marks : List Mark) (start : Start) (C : List Change) : Type 0 where
+pub record MayBeWrittenOn (shards shard : ℕ) (image : Contents) (marks : List Mark) (start : Start) (C : List Change) : Type 0 where
   pub fit : FitHolds shards shard image start C
   pub marks_are : marks_of image ≡ Ok marks
   pub next : fit.holds.map.next ≤ next_change start C
@@ -63,27 +62,27 @@ pub record AreClosed (image : Contents) (k : ℕ) : Type 0 where
   pub log : IsClosed (image (Log k))
 
 -- the key list has the records of the changes, where there are any, as one body more
-abbrev pub HasKeys : Contents → Contents → ℕ → Start → List Change → List Change → Type 0
-HasKeys image after k start C E =
-    ((key_records start C E ≡ []) × (gates (after (Keys k)) ≡ gates (image (Keys k))))
-    ⊎ (gates (after (Keys k)) ≡ pushed (spelling Second (key_records start C E)) (gates (image (Keys k))))
+abbrev pub HasKeyBody : Contents → Contents → ℕ → Start → List Change → List Change → Type 0
+HasKeyBody image after k start C E =
+    ((key_records_of start C E ≡ []) × (gates (after (Keys k)) ≡ gates (image (Keys k))))
+    ⊎ (gates (after (Keys k)) ≡ body_pushed (keys_spelling Second (key_records_of start C E)) (gates (image (Keys k))))
 
 abbrev pub HasBatch : Contents → Contents → ℕ → Start → List Change → List Change → Type 0
-HasBatch image after k start C E = gates (after (Log k)) ≡ pushed (log_spelling.spelling (batch_of start C E)) (gates (image (Log k)))
+HasBatch image after k start C E = gates (after (Log k)) ≡ body_pushed (batch_spelling (batch_of start C E)) (gates (image (Log k)))
 
 -- ---- openings
 
 -- a fit image is before the changes that follow the start which it recovers to
 abbrev pub BeginsItself : Type 0
 BeginsItself = (shards shard : ℕ) (image : Contents) (m : Mark) (marks : List Mark) (found : ShardMap) (slots : ℕ) → IsFitFor shards shard image
-    → marks_of image ≡ Ok (m ∷ marks) → map_of image shards shard ≡ Ok found → IsBefore shards shard image (m ∷ marks) (start_of slots found) []
+    → marks_of image ≡ Ok (m ∷ marks) → map_of image shards shard ≡ Ok found → MayBeWrittenOn shards shard image (m ∷ marks) (start_of_map slots found) []
 
 -- where there is no mark it is fit for every home, and holds the state of a fresh start; so is the empty disk
 abbrev pub NoMarkIsFresh : Type 0
-NoMarkIsFresh = (shards shard : ℕ) (image : Contents) (slots : ℕ) → marks_of image ≡ Ok [] → IsClosed (image Marks) → FitHolds shards shard image (start_of slots fresh_map) []
+NoMarkIsFresh = (shards shard : ℕ) (image : Contents) (slots : ℕ) → marks_of image ≡ Ok [] → IsClosed (image Marks) → FitHolds shards shard image (start_of_map slots fresh_map) []
 
 abbrev pub EmptyIsFresh : Type 0
-EmptyIsFresh = (shards shard slots : ℕ) → FitHolds shards shard (λ file. []) (start_of slots fresh_map) []
+EmptyIsFresh = (shards shard slots : ℕ) → FitHolds shards shard (λ file. []) (start_of_map slots fresh_map) []
 
 -- no bodies, and not cut
 abbrev pub IsEmptyList : Walk → Type 0
@@ -92,34 +91,34 @@ IsEmptyList list = (list.bodies ≡ []) × (list.whole ≡ true)
 -- a store with its first mark alone is before the changes that follow a fresh start
 abbrev pub HomeIsFresh : Type 0
 HomeIsFresh = (shards shard : ℕ) (image : Contents) (slots : ℕ) → marks_of image ≡ Ok (Home shards shard ∷ []) → IsEmptyList (gates (image (Keys 0))) → IsEmptyList (gates (image (Log 0)))
-    → AreClosed image 0 → IsBefore shards shard image (Home shards shard ∷ []) (start_of slots fresh_map) []
+    → AreClosed image 0 → MayBeWrittenOn shards shard image (Home shards shard ∷ []) (start_of_map slots fresh_map) []
 
 -- ---- appends
 
 -- with the same lists, and closed, it is as it was
 abbrev pub SameListsHold : Type 0
 SameListsHold = (shards shard : ℕ) (image after : Contents) (m : Mark) (marks : List Mark) (start : Start) (C : List Change)
-    → IsBefore shards shard image (m ∷ marks) start C → HaveSameLists image after → AreClosed after (current (m ∷ marks))
-    → IsBefore shards shard after (m ∷ marks) start C
+    → MayBeWrittenOn shards shard image (m ∷ marks) start C → HaveSameLists image after → AreClosed after (current (m ∷ marks))
+    → MayBeWrittenOn shards shard after (m ∷ marks) start C
 
 -- with the key records alone, which no batch covers yet, it is as it was
 abbrev pub KeysChangeNothing : Type 0
 KeysChangeNothing = (shards shard : ℕ) (image after : Contents) (m : Mark) (marks : List Mark) (start : Start) (C E : List Change)
-    → IsBefore shards shard image (m ∷ marks) start C → Follow start C E → OthersStay image after (current (m ∷ marks)) → AreClosed after (current (m ∷ marks))
-    → HasKeys image after (current (m ∷ marks)) start C E → gates (after (Log (current (m ∷ marks)))) ≡ gates (image (Log (current (m ∷ marks))))
+    → MayBeWrittenOn shards shard image (m ∷ marks) start C → Follow start C E → OtherListsStay image after (current (m ∷ marks)) → AreClosed after (current (m ∷ marks))
+    → HasKeyBody image after (current (m ∷ marks)) start C E → gates (after (Log (current (m ∷ marks)))) ≡ gates (image (Log (current (m ∷ marks))))
     → FitHolds shards shard after start C
 
 -- with the batch besides, it holds the state after the further changes, and can be written on
 abbrev pub BothExtend : Type 0
 BothExtend = (shards shard : ℕ) (image after : Contents) (m : Mark) (marks : List Mark) (start : Start) (C E : List Change)
-    → IsBefore shards shard image (m ∷ marks) start C → Follow start C E → OthersStay image after (current (m ∷ marks)) → AreClosed after (current (m ∷ marks))
-    → HasKeys image after (current (m ∷ marks)) start C E → HasBatch image after (current (m ∷ marks)) start C E
-    → IsBefore shards shard after (m ∷ marks) start (E ++ C)
+    → MayBeWrittenOn shards shard image (m ∷ marks) start C → Follow start C E → OtherListsStay image after (current (m ∷ marks)) → AreClosed after (current (m ∷ marks))
+    → HasKeyBody image after (current (m ∷ marks)) start C E → HasBatch image after (current (m ∷ marks)) start C E
+    → MayBeWrittenOn shards shard after (m ∷ marks) start (E ++ C)
 
 -- the records of changes are those of what waits in a journal that holds these changes
 abbrev pub WaitingSpells : Type 0
 WaitingSpells = (start : Start) (C E : List Change) (H : History) → IsStart start → Legal start H → changes H ≡ E ++ C
-    → (key_records start C E ≡ key_records_by (next_change start C) (waiting_after start C E)) × (log_records_of start C E ≡ log_records_by (waiting_after start C E))
+    → (key_records_of start C E ≡ key_records_by (next_change start C) (waiting_after start C E)) × (log_records_of start C E ≡ log_records_by (waiting_after start C E))
 
 -- the bytes of a block of seconds are found to be that block
 abbrev pub BlockIsFound : Type 0
@@ -132,6 +131,6 @@ BlockIsExact = (w : ℕ) (bytes : List ℕ) (points : List Point) → IsBytes by
 
 -- An image that holds the state after a prefix of a legal history's changes opens with the same home and slots to the map that
 -- it holds, unless its next number has come to its limit.
-abbrev pub OpensAgain : Type 0
-OpensAgain = (shards shard : ℕ) (image : Contents) (start : Start) (H : History) (C : List Change) → IsStart start → Legal start H → IsFirstOf C (changes H)
-    → (h : Holds shards shard image start C) → (opens_to image shards shard start.slots ≡ Ok h.map) ⊎ (opens_to image shards shard start.slots ≡ Err (fault.Worn h.map.next))
+abbrev pub HeldOpensAgain : Type 0
+HeldOpensAgain = (shards shard : ℕ) (image : Contents) (start : Start) (H : History) (C : List Change) → IsStart start → Legal start H → IsFirstOf C (changes H)
+    → (h : HoldsChanges shards shard image start C) → (opens_to image shards shard start.slots ≡ Ok h.map) ⊎ (opens_to image shards shard start.slots ≡ Err (fault.Worn h.map.next))

@@ -2,25 +2,25 @@
 use Rattle.std.specs.Prelude.{◌≡◌, ℕ, ◌<◌, ◌≤◌, List, [], ◌∷◌, ◌++◌, Ok, Bool, true, false, ⊤}
 use Rattle.gor_marks.specs.declared.mark.Mark.{Mark}
 use Rattle.gor_marks.specs.declared.mark.Mark.TheVariants.{Home}
-use Rattle.gor_marks.specs.Spelling.{InLimits, is_home}
+use Rattle.gor_marks.specs.Spelling.{MarkInLimits, is_home}
 use Rattle.gor_image.specs.Recovery.{base_end}
 use Rattle.gor_image.specs.Images.{mark_after, base_of}
 
 -- a sealed mark may follow these marks: its window and its key list rise, and nothing falls
-pub record MayFollow (marks : List Mark) (m : Mark) : Type 0 where
-  pub limits : InLimits m
+pub record MarkMayFollow (marks : List Mark) (m : Mark) : Type 0 where
+  pub limits : MarkInLimits m
   pub sealed : is_home m ≡ false
   pub rises : mark_after marks 0 m ≡ Ok (marks ++ m ∷ [])
 
 -- these sealed marks follow those before them
 abbrev pub AllFollow : List Mark → List Mark → Type 0
 AllFollow before [] = ⊤
-AllFollow before (m ∷ more) = MayFollow before m × AllFollow (before ++ m ∷ []) more
+AllFollow before (m ∷ more) = MarkMayFollow before m × AllFollow (before ++ m ∷ []) more
 
 -- the marks of a store: first the home of this shard of so many, then sealed ones
 abbrev pub AreMarks : ℕ → ℕ → List Mark → Type 0
 AreMarks shards shard [] = ⊥
-AreMarks shards shard (m ∷ more) = (m ≡ Home shards shard) × InLimits m × AllFollow (m ∷ []) more
+AreMarks shards shard (m ∷ more) = (m ≡ Home shards shard) × MarkInLimits m × AllFollow (m ∷ []) more
 
 -- no marks, on a disk that was never written, or the marks of a store
 abbrev pub AreMarksOrNone : ℕ → ℕ → List Mark → Type 0

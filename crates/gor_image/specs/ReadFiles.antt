@@ -9,7 +9,7 @@ use Rattle.gor_model.specs.declared.event.Change.{Change}
 use Rattle.gor_model.specs.declared.start.Start.{Start}
 use Rattle.gor_marks.specs.declared.mark.Mark.{Mark}
 use Rattle.gor_image.specs.Images.{current, first_log_of, live_windows}
-use Rattle.gor_image.specs.Laws.{AreClosed, IsBefore}
+use Rattle.gor_image.specs.Laws.{AreClosed, MayBeWrittenOn}
 use Rattle.gor_image.specs.DiskSteps.{Keeps}
 
 -- the marks, the current key list, the logs that remain and the live block files
@@ -35,15 +35,15 @@ ReadAlike (Log l) a b = gates a ≡ gates b
 ReadAlike (Block w) a b = a ≡ b
 
 -- no file that is read differs from what was given, and those that are appended to are closed
-pub record ReadsAs (marks : List Mark) (given image : Contents) : Type 0 where
+pub record ReadsAsGiven (marks : List Mark) (given image : Contents) : Type 0 where
   pub each : (file : FileId) → is_read marks file ≡ true → ReadAlike file (image file) (given file)
   pub closed : AreClosed image (current marks)
 
 -- whatever the images were before, those of the call and after it are too
 abbrev pub KeepsBefore : List Mark → DiskView → DiskView → Type 0
-KeepsBefore marks old new = (shards shard : ℕ) (start : Start) (C : List Change) → Keeps (λ image. IsBefore shards shard image marks start C) old new
+KeepsBefore marks old new = (shards shard : ℕ) (start : Start) (C : List Change) → Keeps (λ image. MayBeWrittenOn shards shard image marks start C) old new
 
 -- what holds of an image holds of another by the same marks, where only files differ that are not read
 abbrev pub UnreadChangesNothing : Type 0
 UnreadChangesNothing = (shards shard : ℕ) (image after : Contents) (m : Mark) (marks : List Mark) (start : Start) (C : List Change)
-    → IsBefore shards shard image (m ∷ marks) start C → ReadsAs (m ∷ marks) image after → IsBefore shards shard after (m ∷ marks) start C
+    → MayBeWrittenOn shards shard image (m ∷ marks) start C → ReadsAsGiven (m ∷ marks) image after → MayBeWrittenOn shards shard after (m ∷ marks) start C

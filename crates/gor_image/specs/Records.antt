@@ -11,7 +11,7 @@ pub record Placed (X : Type 0) : Type 0 where
   pub it : X
 
 -- a batch of the log of this number
-pub record Batch : Type 0 where
+pub record BatchInLog : Type 0 where
   pub log : ℕ
   pub first : ℕ
   pub last : ℕ
@@ -36,4 +36,4 @@ pub record Files : Type 0 where
   pub base : Base
   pub keys : List (Placed KeyRecord)
   pub blocks : List BlockRow
-  pub batches : List Batch
+  pub batches : List BatchInLog

@@ -11,18 +11,18 @@ use Rattle.gor_keys.specs.declared.record.KeyRecord.{KeyRecord}
 use Rattle.gor_keys.specs.declared.record.KeyRecord.TheVariants.{Create, Delete, Live}
 use Rattle.gor_log.specs.declared.record.LogRecord.{LogRecord}
 use Rattle.gor_log.specs.declared.record.LogRecord.TheVariants.{Put, Floor, Seal}
-use Rattle.gor_image.specs.Records.{Placed, Batch, BlockRow, Base, Files}
+use Rattle.gor_image.specs.Records.{Placed, BatchInLog, BlockRow, Base, Files}
 
 -- ---- which records count
 
 -- a batch of a remaining log has the number, or the last mark stands for it
-abbrev pub is_within : ℕ → Batch → Bool
+abbrev pub is_within : ℕ → BatchInLog → Bool
 is_within number batch = nat_le batch.first number && nat_le number batch.last
 
-abbrev pub is_covered : Base → List Batch → ℕ → Bool
+abbrev pub is_covered : Base → List BatchInLog → ℕ → Bool
 is_covered base batches number = nat_le number base.upto || list_any (is_within number) batches
 
-abbrev pub counts : Base → List Batch → KeyRecord → Bool
+abbrev pub counts : Base → List BatchInLog → KeyRecord → Bool
 counts base batches (Create number slot floor name) = is_covered base batches number
 counts base batches (Delete number slot) = is_covered base batches number
 counts base batches (Live uid slot floor name) = true
@@ -30,8 +30,8 @@ counts base batches (Live uid slot floor name) = true
 abbrev pub counted_keys : Files → List (Placed KeyRecord)
 counted_keys files = filter (λ r. counts files.base files.batches r.it) files.keys
 
-abbrev pub log_records : List Batch → List LogRecord
-log_records batches = flat_map (λ b. map (λ r. r.it) b.records) batches
+abbrev pub records_of_batches : List BatchInLog → List LogRecord
+records_of_batches batches = flat_map (λ b. map (λ r. r.it) b.records) batches
 
 -- ---- names
 
@@ -59,8 +59,8 @@ without_name names key slot = record {
   holder = λ s. if nat_eq s slot then None else names.holder s;
 }
 
-abbrev pub named : Names → ℕ → ℕ → ℕ → List ℕ → Result Names WrongName
-named names uid slot floor name =
+abbrev pub name_added : Names → ℕ → ℕ → ℕ → List ℕ → Result Names WrongName
+name_added names uid slot floor name =
     if is_some (names.holder slot) then Err WrongSlot
     else if is_some (names.row (key_of name)) then Err SameName
     else Ok (with_name names (key_of name) (record { name = name; slot = slot; uid = uid; floor = floor; points = [] }))
@@ -70,8 +70,8 @@ freed names slot None = Err WrongSlot
 freed names slot (Some key) = Ok (without_name names key slot)
 
 abbrev pub read_name : Names → KeyRecord → Result Names WrongName
-read_name names (Create number slot floor name) = named names number slot floor name
-read_name names (Live uid slot floor name) = named names uid slot floor name
+read_name names (Create number slot floor name) = name_added names number slot floor name
+read_name names (Live uid slot floor name) = name_added names uid slot floor name
 read_name names (Delete number slot) = freed names slot (names.holder slot)
 
 -- the first refusal, with the place of its record
@@ -113,14 +113,14 @@ floor_end (Floor w) = Some (window_end w)
 floor_end _ = None
 
 -- all points of a series: those of the rows of the live block files, then those of the logs above the last mark's window
-abbrev pub points_of : Base → List BlockRow → List LogRecord → ℕ → List Point
-points_of base blocks log uid = flat_map (block_points uid) blocks ++ filter_map (put_point base uid) log
+abbrev pub points_of_series : Base → List BlockRow → List LogRecord → ℕ → List Point
+points_of_series base blocks log uid = flat_map (block_points uid) blocks ++ filter_map (put_point base uid) log
 
 -- the row of a name, raised by its seals, with the points that are kept
 abbrev pub filled : Base → List BlockRow → List LogRecord → Row → Row
 filled base blocks log row = with_kept (record row {
   floor = greatest row.floor (filter_map (seal_end row.uid) log);
-  points = points_of base blocks log row.uid;
+  points = points_of_series base blocks log row.uid;
 })
 
 abbrev pub floor_of : Base → List LogRecord → ℕ
@@ -128,13 +128,13 @@ floor_of base log = greatest (base_end base.window) (filter_map floor_end log)
 
 -- ---- the next change number
 
-abbrev pub number_in : KeyRecord → Option ℕ
-number_in (Create number slot floor name) = Some number
-number_in (Delete number slot) = Some number
-number_in (Live uid slot floor name) = None
+abbrev pub change_number_in : KeyRecord → Option ℕ
+change_number_in (Create number slot floor name) = Some number
+change_number_in (Delete number slot) = Some number
+change_number_in (Live uid slot floor name) = None
 
 abbrev pub next_of : Files → ℕ
-next_of files = greatest (greatest files.base.upto (map (λ b. b.last) files.batches)) (filter_map (λ r. number_in r.it) files.keys) + 1
+next_of files = greatest (greatest files.base.upto (map (λ b. b.last) files.batches)) (filter_map (λ r. change_number_in r.it) files.keys) + 1
 
 -- ---- the map
 
@@ -146,8 +146,8 @@ pub record ShardMap : Type 0 where
 
 abbrev pub recovered : Files → Names → ShardMap
 recovered files names = record {
-  floor = floor_of files.base (log_records files.batches);
+  floor = floor_of files.base (records_of_batches files.batches);
   next = next_of files;
-  row = λ q. option_map (filled files.base files.blocks (log_records files.batches)) (names.row q);
+  row = λ q. option_map (filled files.base files.blocks (records_of_batches files.batches)) (names.row q);
   holder = names.holder;
 }

@@ -10,20 +10,20 @@ use Rattle.gor_model.specs.PlainMap.{next_change}
 use Rattle.gor_model.specs.Windows.{window, window_end, kept}
 use Rattle.gor_disk.specs.declared.disk.FileId.TheVariants.{Marks, Keys, Log, Block}
 use Rattle.gor_disk.specs.Disk.{Contents}
-use Rattle.gor_gate.specs.Gates.{gates, pushed}
+use Rattle.gor_gate.specs.Gates.{gates, body_pushed}
 use Rattle.gor_marks.specs.declared.mark.Mark.{Mark}
 use Rattle.gor_marks.specs.declared.mark.Mark.TheVariants.{Sealed}
-use Rattle.gor_marks.specs.Spelling.{spelling}
+use Rattle.gor_marks.specs.Spelling.{mark_spelling}
 use Rattle.gor_keys.specs.declared.record.KeyRecord.{KeyRecord}
 use Rattle.gor_keys.specs.declared.record.KeyRecord.TheVariants.{Live}
 use Rattle.gor_log.specs.declared.record.LogRecord.{LogRecord}
 use Rattle.gor_log.specs.declared.record.LogRecord.TheVariants.{Put}
-use Rattle.gor_image.specs.Records.{Batch, BlockRow, Base, Files}
-use Rattle.gor_image.specs.Recovery.{Names, names_of, recovered, log_records, points_of, put_point, block_points, next_of}
-use Rattle.gor_image.specs.Holding.{rows_of}
+use Rattle.gor_image.specs.Records.{BatchInLog, BlockRow, Base, Files}
+use Rattle.gor_image.specs.Recovery.{Names, names_of, recovered, records_of_batches, points_of_series, put_point, block_points, next_of}
+use Rattle.gor_image.specs.Holding.{rows_of_map}
 use Rattle.gor_image.specs.Images.{read_files, read_logs, current}
-use Rattle.gor_image.specs.MarkLists.{MayFollow}
-use Rattle.gor_image.specs.Laws.{IsBefore, AreClosed}
+use Rattle.gor_image.specs.MarkLists.{MarkMayFollow}
+use Rattle.gor_image.specs.Laws.{MayBeWrittenOn, AreClosed}
 
 -- ---- the points of a series
 
@@ -57,8 +57,8 @@ IsCopied base w uid fresh log = kept (window_end w) (flat_map (block_points uid)
 
 -- ---- the names
 
-abbrev pub bare : Row → Row
-bare row = record row { points = [] }
+abbrev pub bare_row : Row → Row
+bare_row row = record row { points = [] }
 
 abbrev pub live_record : List ℕ × Row → KeyRecord
 live_record r = Live r.1.uid r.1.slot r.1.floor r.1.name
@@ -66,34 +66,34 @@ live_record r = Live r.1.uid r.1.slot r.1.floor r.1.name
 -- ---- the files
 
 -- the batches of earlier logs, and those of later ones, which read the same alone
-pub record SplitLogs (image : Contents) (earlier later : List ℕ) (batches : List Batch) : Type 0 where
-  pub dropped : List Batch
-  pub remaining : List Batch
+pub record SplitLogs (image : Contents) (earlier later : List ℕ) (batches : List BatchInLog) : Type 0 where
+  pub dropped : List BatchInLog
+  pub remaining : List BatchInLog
   pub is : batches ≡ dropped ++ remaining
   pub earlier_read : read_logs image earlier [] ≡ Ok dropped
   pub later_read : read_logs image later [] ≡ Ok remaining
 
 -- where logs are read without damage, so are the later ones of them alone
 abbrev pub LaterLogsAlone : Type 0
-LaterLogsAlone = (image : Contents) (earlier later : List ℕ) (batches : List Batch) → read_logs image (earlier ++ later) [] ≡ Ok batches → SplitLogs image earlier later batches
+LaterLogsAlone = (image : Contents) (earlier later : List ℕ) (batches : List BatchInLog) → read_logs image (earlier ++ later) [] ≡ Ok batches → SplitLogs image earlier later batches
 
 -- The new files, against the old ones under the same names: a mark with this window, and `upto` for the changes before it. The
 -- old next number is at most the one behind `upto`.
 pub record Turned (old new : Files) (names : Names) (w upto : ℕ) : Type 0 where
   pub fresh : List BlockRow
-  pub dropped : List Batch
+  pub dropped : List BatchInLog
   pub base : new.base ≡ record { window = Some w; upto = upto }
   pub later : WindowRises old.base.window w
-  pub key_list : map (λ r. r.it) new.keys ≡ map live_record (rows_of (recovered old names))
+  pub key_list : map (λ r. r.it) new.keys ≡ map live_record (rows_of_map (recovered old names))
   pub blocks : new.blocks ≡ filter (is_live w) old.blocks ++ fresh
   pub logs : old.batches ≡ dropped ++ new.batches
   pub all_taken : next_of old ≤ upto + 1
   -- what the finish has made sure of
-  pub none_behind : AllByRecursion (HasNoneBehind w) (log_records dropped)
+  pub none_behind : AllByRecursion (HasNoneBehind w) (records_of_batches dropped)
   pub shard_at_end : (recovered old names).floor ≡ window_end w
   pub rows_at_end : (k : List ℕ) (r : Row) → (recovered old names).row k ≡ Some r → r.floor ≡ window_end w
-  pub copied : (k : List ℕ) (r : Row) → names.row k ≡ Some r → IsCopied old.base w r.uid fresh (log_records old.batches)
-  pub rising : (k : List ℕ) (r : Row) → names.row k ≡ Some r → EachBefore (λ p q. p.time < q.time) (points_of new.base new.blocks (log_records new.batches) r.uid)
+  pub copied : (k : List ℕ) (r : Row) → names.row k ≡ Some r → IsCopied old.base w r.uid fresh (records_of_batches old.batches)
+  pub rising : (k : List ℕ) (r : Row) → names.row k ≡ Some r → EachBefore (λ p q. p.time < q.time) (points_of_series new.base new.blocks (records_of_batches new.batches) r.uid)
   pub fresh_uids : AllByRecursion (λ b. b.uid < next_of old) fresh
   -- what block files say by their grammar
   pub in_file : AllByRecursion IsInFile old.blocks
@@ -119,7 +119,7 @@ pub record MarksDiffer (image after : Contents) : Type 0 where
 -- with the mark behind the marks, an image that has the new files holds the state by them
 abbrev pub MarkTurns : Type 0
 MarkTurns = (shards shard : ℕ) (image after : Contents) (m : Mark) (marks : List Mark) (w k upto first_log : ℕ) (start : Start) (C : List Change)
-    → IsBefore shards shard image (m ∷ marks) start C → MayFollow (m ∷ marks) (Sealed w k upto first_log) → upto + 1 ≤ next_change start C
+    → MayBeWrittenOn shards shard image (m ∷ marks) start C → MarkMayFollow (m ∷ marks) (Sealed w k upto first_log) → upto + 1 ≤ next_change start C
     → HasNew image (m ∷ marks) (m ∷ (marks ++ Sealed w k upto first_log ∷ [])) w upto
-    → MarksDiffer image after → gates (after Marks) ≡ pushed (spelling (Sealed w k upto first_log)) (gates (image Marks))
-    → AreClosed after (current (m ∷ (marks ++ Sealed w k upto first_log ∷ []))) → IsBefore shards shard after (m ∷ (marks ++ Sealed w k upto first_log ∷ [])) start C
+    → MarksDiffer image after → gates (after Marks) ≡ body_pushed (mark_spelling (Sealed w k upto first_log)) (gates (image Marks))
+    → AreClosed after (current (m ∷ (marks ++ Sealed w k upto first_log ∷ []))) → MayBeWrittenOn shards shard after (m ∷ (marks ++ Sealed w k upto first_log ∷ [])) start C

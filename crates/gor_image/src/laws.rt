@@ -1,7 +1,7 @@
 //! What appends and openings may rely on.
 ghost use Rattle.gor_image.specs.ReadFiles.{UnreadChangesNothing};
 ghost use Rattle.gor_image.specs.Turns.{MarkTurns, LaterLogsAlone};
-ghost use Rattle.gor_image.specs.Laws.{ListsDecide, SameListsHold, KeysChangeNothing, BothExtend, WaitingSpells, BlockIsFound, BlockIsExact, BeginsItself, NoMarkIsFresh, EmptyIsFresh, HomeIsFresh, OpensAgain};
+ghost use Rattle.gor_image.specs.Laws.{ListsDecide, SameListsHold, KeysChangeNothing, BothExtend, WaitingSpells, BlockIsFound, BlockIsExact, BeginsItself, NoMarkIsFresh, EmptyIsFresh, HomeIsFresh, HeldOpensAgain};
 
 /// The laws that appends rest on, as clauses. Those on appends speak of an image that is fit and holds the state after some
 /// changes, of which no file has a number that the next change takes, and of further changes that follow in a legal history.
@@ -39,5 +39,5 @@ pub fn laws()
     ensures exact { BlockIsExact }
     // Every image that holds the state after a prefix of the changes of a legal history opens again with the same home and
     // slots, to that very map, or its numbers are worn.
-    ensures again { OpensAgain }
+    ensures again { HeldOpensAgain }
 {}

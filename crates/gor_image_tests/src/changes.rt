@@ -1,5 +1,5 @@
 //! Changes of a shard, made in its journal.
-ghost use Rattle.gor_journal.specs.Entries.{InLimits};
+ghost use Rattle.gor_journal.specs.Entries.{EntryInLimits};
 
 use gor_journal::{Entry, Journal};
 use gor_name::Name;
@@ -67,7 +67,7 @@ const GREATEST_TIME: u64 = 4_294_965_599;
 
 // Adds a change where the journal may have one more.
 fn add(journal: &mut Journal, entry: &Entry) -> bool
-    requires { InLimits entry.now }
+    requires { EntryInLimits entry.now }
 {
     if journal.reserve(entry).is_err() {
         return false;

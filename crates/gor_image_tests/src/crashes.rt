@@ -1,7 +1,7 @@
 //! What a crash leaves of two openings and two flushes, also where a call fails; and of openings of what a crash left.
 ghost use Rattle.std.specs.Prelude.{◌≤◌, IsTrue, IfOk};
 ghost use Rattle.gor_disk.specs.Disk.{NothingPending};
-ghost use Rattle.gor_flush.specs.Devices.{shown};
+ghost use Rattle.gor_flush.specs.Devices.{device_shown};
 ghost use Rattle.gor_image_tests.specs.Take.{CanTake};
 
 use crate::changes::{A_FIRST, A_THEN, C_THEN, FIRST, MORE, make};
@@ -73,7 +73,7 @@ struct Course {
 /// A device that was opened, closed and opened again.
 fn open_twice<D: Disk>(alloc: Global, disk: D) -> Result<Device<D>, NoDevice<D>>
     requires { IsTrue D.tells → NothingPending (D.view disk) }
-    ensures { IfOk result (λ device. CanTake (shown D.tells D.view D.faults device)) }
+    ensures { IfOk result (λ device. CanTake (device_shown D.tells D.view D.faults device)) }
 {
     match open(alloc, disk) {
         Ok(device) => open(alloc, device.close()),
@@ -98,7 +98,7 @@ fn flush_twice(
     device: &mut Device<MemoryDisk>,
     journal: &mut Journal,
 ) -> Option<([Option<u64>; 2], usize)>
-    requires { CanTake (shown (⟦<MemoryDisk as Disk>⟧.tells) (⟦<MemoryDisk as Disk>⟧.view) (⟦<MemoryDisk as Disk>⟧.faults) device.old) }
+    requires { CanTake (device_shown (⟦<MemoryDisk as Disk>⟧.tells) (⟦<MemoryDisk as Disk>⟧.view) (⟦<MemoryDisk as Disk>⟧.faults) device.old) }
 {
     if !make(alloc, journal, &FIRST) {
         return None;

@@ -1,7 +1,7 @@
 //! Writes of a device, and each of its calls failing.
 ghost use Rattle.std.specs.Prelude.{◌≡◌, ◌≢◌, IsTrue, IfOk, IfSome};
 ghost use Rattle.gor_disk.specs.Disk.{NothingPending};
-ghost use Rattle.gor_flush.specs.Devices.{shown};
+ghost use Rattle.gor_flush.specs.Devices.{device_shown};
 ghost use Rattle.gor_flush.specs.Flushes.{AreBodies};
 ghost use Rattle.gor_flush.specs.Takes.{with_buffers};
 ghost use Rattle.gor_image_tests.specs.Take.{CanTake};
@@ -19,8 +19,8 @@ use std::alloc::Global;
 pub(crate) fn open<D: Disk>(alloc: Global, disk: D) -> Result<Device<D>, NoDevice<D>>
     requires { IsTrue D.tells → NothingPending (D.view disk) }
     ensures pending { IsTrue D.tells → IfOk result (λ device. NothingPending (D.view device.disk)) }
-    ensures ready { IfOk result (λ device. CanTake (shown D.tells D.view D.faults device)) }
-    ensures begun { IfOk result (λ device. (shown D.tells D.view D.faults device).begun ≡ D.faults device.disk) }
+    ensures ready { IfOk result (λ device. CanTake (device_shown D.tells D.view D.faults device)) }
+    ensures begun { IfOk result (λ device. (device_shown D.tells D.view D.faults device).begun ≡ D.faults device.disk) }
 {
     match Device::open(alloc, disk, 1, 0, 4) {
         Ok((device, _recovered)) => Ok(device),
@@ -30,10 +30,10 @@ pub(crate) fn open<D: Disk>(alloc: Global, disk: D) -> Result<Device<D>, NoDevic
 
 // Moves what waits to the buffers, and gives the count of changes.
 fn take<D: Disk>(device: &mut Device<D>, journal: &mut Journal) -> u64
-    requires { AreEmpty (shown D.tells D.view D.faults device.old).buffers }
-    ensures same { with_buffers (shown D.tells D.view D.faults device.old).buffers (shown D.tells D.view D.faults device.new) ≡ shown D.tells D.view D.faults device.old }
-    ensures count { result ≡ (shown D.tells D.view D.faults device.new).buffers.changes }
-    ensures bodies { AreBodies (shown D.tells D.view D.faults device.new).buffers }
+    requires { AreEmpty (device_shown D.tells D.view D.faults device.old).buffers }
+    ensures same { with_buffers (device_shown D.tells D.view D.faults device.old).buffers (device_shown D.tells D.view D.faults device.new) ≡ device_shown D.tells D.view D.faults device.old }
+    ensures count { result ≡ (device_shown D.tells D.view D.faults device.new).buffers.changes }
+    ensures bodies { AreBodies (device_shown D.tells D.view D.faults device.new).buffers }
 {
     journal.take(device.buffers());
     device.buffers().changes
@@ -41,8 +41,8 @@ fn take<D: Disk>(device: &mut Device<D>, journal: &mut Journal) -> u64
 
 /// Takes and writes what waits, where the device is not stopped; how many changes it has written by then.
 pub(crate) fn write<D: Disk>(device: &mut Device<D>, journal: &mut Journal) -> Option<u64>
-    requires { CanTake (shown D.tells D.view D.faults device.old) }
-    ensures { IfSome result (λ count. CanTake (shown D.tells D.view D.faults device.new)) }
+    requires { CanTake (device_shown D.tells D.view D.faults device.old) }
+    ensures { IfSome result (λ count. CanTake (device_shown D.tells D.view D.faults device.new)) }
 {
     if device.stopped() || device.written() > 1 << 40 {
         return None;
@@ -58,7 +58,7 @@ pub(crate) fn write<D: Disk>(device: &mut Device<D>, journal: &mut Journal) -> O
 
 // Writes a put of `a`, which begins the series; how many changes are written by then.
 fn write_first(alloc: Global, device: &mut Device<MemoryDisk>) -> Option<u64>
-    requires { CanTake (shown (⟦<MemoryDisk as Disk>⟧.tells) (⟦<MemoryDisk as Disk>⟧.view) (⟦<MemoryDisk as Disk>⟧.faults) device.old) }
+    requires { CanTake (device_shown (⟦<MemoryDisk as Disk>⟧.tells) (⟦<MemoryDisk as Disk>⟧.view) (⟦<MemoryDisk as Disk>⟧.faults) device.old) }
 {
     let mut journal = Journal::new(alloc, 1).ok()?;
     if !make(alloc, &mut journal, &FIRST) {
@@ -136,7 +136,7 @@ fn each_call_of_a_write_fails_in_turn(rt: HostRuntime) {
 
 /// Stops the device where its disk fails at a call.
 fn stop_at_a_fault<D: Disk>(device: &mut Device<D>)
-    requires { (shown D.tells D.view D.faults device.old).begun ≡ D.faults device.old.disk }
+    requires { (device_shown D.tells D.view D.faults device.old).begun ≡ D.faults device.old.disk }
 {
     if device.disk.len(FileId::Marks).is_err() {
         device.stop();

@@ -3,7 +3,7 @@ ghost use Rattle.std.specs.Prelude.{◌≡◌, ◌≢◌, IsTrue, IfSome};
 ghost use Rattle.gor_disk.specs.Disk.{IsSettled, NothingPending};
 ghost use Rattle.gor_disk.specs.declared.disk.FileId.{FileId as FileName};
 ghost use Rattle.gor_disk.specs.declared.disk.FileId.TheVariants.{Keys, Log};
-ghost use Rattle.gor_gate.specs.Places.{Place, IsEnsured};
+ghost use Rattle.gor_gate.specs.Places.{GatedPlace, IsEnsured};
 ghost use Rattle.gor_journal.specs.Bodies.{AreEmpty};
 
 use crate::changes::{FIRST, MORE, Made, make};
@@ -21,7 +21,7 @@ fn ensured<D: Disk>(alloc: Global, disk: &mut D, file: FileId) -> Option<Gated>
     ensures file { IfSome result (λ gated. gated.file ≡ file) }
     ensures ensured { IsTrue D.tells → IfSome result (λ gated. IsEnsured gated (D.view disk.new)) }
     ensures others { IsTrue D.tells → (f : FileName) → f ≢ file → IsSettled (D.view disk.old) f → IsSettled (D.view disk.new) f }
-    ensures kept { IsTrue D.tells → (place : Place) → place.file ≢ file → IsEnsured place (D.view disk.old) → IsEnsured place (D.view disk.new) }
+    ensures kept { IsTrue D.tells → (place : GatedPlace) → place.file ≢ file → IsEnsured place (D.view disk.old) → IsEnsured place (D.view disk.new) }
 {
     match read_all(alloc, disk, file) {
         Ok((mut gated, bodies)) => {

@@ -1,6 +1,6 @@
 //! The reads of an opening: their order, and each of them failing.
 
-use crate::damage::{Store, lay};
+use crate::damage::{DamagedStore, lay};
 use crate::laid::Bytes;
 use crate::steps::{ONLY, fault_of};
 use gor_disk::{DiskCall, DiskKind, FileId, MemoryDisk};
@@ -35,7 +35,7 @@ fn look_at(calls: &[DiskCall], file: FileId, number: usize) -> Option<usize> {
 }
 
 // How many calls lay a store; none where it cannot be laid.
-fn calls_to_lay(alloc: Global, store: Store, file: FileId) -> usize {
+fn calls_to_lay(alloc: Global, store: DamagedStore, file: FileId) -> usize {
     let mut disk = MemoryDisk::new(alloc);
     if !lay(alloc, &mut disk, store, file) {
         return 0;
@@ -44,7 +44,7 @@ fn calls_to_lay(alloc: Global, store: Store, file: FileId) -> usize {
 }
 
 // Which call of an opening looks at a file for the first or the second time.
-fn look_of(alloc: Global, store: Store, file: FileId, number: usize) -> Option<usize> {
+fn look_of(alloc: Global, store: DamagedStore, file: FileId, number: usize) -> Option<usize> {
     let mut disk = MemoryDisk::new(alloc);
     let _laid = lay(alloc, &mut disk, store, file);
     let laid = disk.calls().len();
@@ -53,7 +53,7 @@ fn look_of(alloc: Global, store: Store, file: FileId, number: usize) -> Option<u
 }
 
 // Whether the disk is told to have failed where this call of an opening fails, and was only looked at.
-fn fails(alloc: Global, store: Store, file: FileId, place: usize) -> bool {
+fn fails(alloc: Global, store: DamagedStore, file: FileId, place: usize) -> bool {
     let laid = calls_to_lay(alloc, store, file);
     let Ok(failing) = vec![in alloc; laid.saturating_add(place) as u64] else {
         return false;
@@ -65,7 +65,7 @@ fn fails(alloc: Global, store: Store, file: FileId, place: usize) -> bool {
 }
 
 fn look_fails(alloc: Global, file: FileId, number: usize) -> bool {
-    let store = Store::Alone(Bytes::Marks);
+    let store = DamagedStore::Alone(Bytes::Marks);
     match look_of(alloc, store, file, number) {
         Some(place) => fails(alloc, store, file, place),
         None => false,
@@ -131,7 +131,7 @@ fn looks_at(calls: &[DiskCall], files: &[FileId]) -> bool {
 // How many calls an opening of the store makes, where these are in order; none where it is not opened.
 fn calls_in_order(alloc: Global) -> Option<usize> {
     let mut disk = MemoryDisk::new(alloc);
-    if !lay(alloc, &mut disk, Store::Sealed, FileId::Marks) {
+    if !lay(alloc, &mut disk, DamagedStore::Sealed, FileId::Marks) {
         return None;
     }
     let laid = disk.calls().len();
@@ -157,7 +157,7 @@ fn each_read_may_fail(rt: HostRuntime) {
     // A length and a read of each of the six files.
     assert!(rt; calls >= 12);
     for place in 0..calls {
-        let told = fails(rt.alloc(), Store::Sealed, FileId::Marks, place);
+        let told = fails(rt.alloc(), DamagedStore::Sealed, FileId::Marks, place);
         assert!(rt; told, "call {place}");
     }
 }

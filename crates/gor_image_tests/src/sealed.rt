@@ -3,9 +3,9 @@
 ghost use Rattle.std.specs.Prelude.{◌<◌, ◌^◌, length};
 ghost use Rattle.std.specs.List.{AllByRecursion};
 ghost use Rattle.gor_model.specs.declared.unit.Unit.TheVariants.{Second};
-ghost use Rattle.gor_keys.specs.Spelling.{InLimits as IsKey};
-ghost use Rattle.gor_log.specs.Spelling.{IsRecord, IsRange};
-ghost use Rattle.gor_marks.specs.Spelling.{InLimits};
+ghost use Rattle.gor_keys.specs.Spelling.{KeyRecordInLimits};
+ghost use Rattle.gor_log.specs.Spelling.{IsLogRecord, IsRange};
+ghost use Rattle.gor_marks.specs.Spelling.{MarkInLimits};
 
 use crate::laid::write;
 use crate::steps::{ONLY, Step, run};
@@ -30,7 +30,7 @@ fn push_body(file: &mut Vec<u8>, body: &[u8]) -> Result<(), AllocError> {
 }
 
 fn push_mark(alloc: Global, file: &mut Vec<u8>, mark: &Mark) -> Result<(), AllocError>
-    requires { InLimits mark.now }
+    requires { MarkInLimits mark.now }
 {
     let mut body = Vec::new(alloc);
     write_mark(mark, &mut body)?;
@@ -84,7 +84,7 @@ fn name_of(alloc: Global, text: &str) -> Result<Name, AllocError> {
 }
 
 fn push_records(alloc: Global, file: &mut Vec<u8>, records: &[KeyRecord]) -> Result<(), AllocError>
-    requires { AllByRecursion (IsKey Second) records.now }
+    requires { AllByRecursion (KeyRecordInLimits Second) records.now }
 {
     let mut body = Vec::new(alloc);
     write_keys(Unit::Second, records, &mut body)?;
@@ -154,7 +154,7 @@ fn push_log(
     records: Vec<LogRecord>,
 ) -> Result<(), AllocError>
     requires range { IsRange first last }
-    requires records { AllByRecursion IsRecord records.items }
+    requires records { AllByRecursion IsLogRecord records.items }
 {
     let batch = LogBatch {
         version: 1,

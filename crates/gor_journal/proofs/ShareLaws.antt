@@ -15,15 +15,15 @@ use Rattle.gor_model.specs.declared.unit.Unit.TheVariants.{Second}
 use Rattle.gor_model.proofs.Lists.{all_joined}
 use Rattle.gor_keys.specs.declared.record.KeyRecord.{KeyRecord}
 use Rattle.gor_keys.specs.declared.record.KeyRecord.TheVariants as key
-use Rattle.gor_keys.specs.Spelling.{IsRecord as IsKeyRecord, record_spelling as key_spelling}
+use Rattle.gor_keys.specs.Spelling.{IsKeyRecord, key_record_spelling}
 use Rattle.gor_log.specs.declared.record.LogRecord.{LogRecord}
-use Rattle.gor_log.specs.Spelling.{IsRecord, record_spelling as log_spelling}
+use Rattle.gor_log.specs.Spelling.{IsLogRecord, log_record_spelling}
 use Rattle.gor_journal.specs.declared.entry.Entry.{Entry}
 use Rattle.gor_journal.specs.declared.entry.Entry.TheVariants.{Create, Put, Delete, Floor, Seal}
 use Rattle.gor_journal.specs.Bodies.{Pending, with_entry, stopping}
-use Rattle.gor_journal.specs.Entries.{InLimits, IsNamed, FitWords, key_bytes, log_bytes, entry_weight, entry_window, change_of, besides_of, greater}
-use Rattle.gor_journal.specs.Records.{created, logged, point_window, key_records, log_records, greatest_window, first_number}
-use Rattle.gor_journal.specs.Stands.{Stands}
+use Rattle.gor_journal.specs.Entries.{EntryInLimits, IsNamed, FitWords, key_bytes, log_bytes, entry_weight, entry_window, change_of, besides_of_entry, greater}
+use Rattle.gor_journal.specs.Records.{created_by, logged, point_window, key_records_waiting, log_records_waiting, greatest_window, first_number}
+use Rattle.gor_journal.specs.Stands.{PendingStands}
 
 -- ---- lists
 
@@ -35,29 +35,29 @@ turned a b = omega arith
 module _ (name key : List ℕ) (number : ℕ) where
   -- the change with what its records hold besides
   abbrev waiting : Entry → Buffered
-  waiting e = record { change = change_of name key e; besides = besides_of number e }
+  waiting e = record { change = change_of name key e; besides = besides_of_entry number e }
 
   abbrev key_of_entry : Entry → Option KeyRecord
-  key_of_entry e = created number (change_of name key e) (besides_of number e)
+  key_of_entry e = created_by number (change_of name key e) (besides_of_entry number e)
 
   abbrev log_of_entry : Entry → Option LogRecord
-  log_of_entry e = logged (change_of name key e) (besides_of number e)
+  log_of_entry e = logged (change_of name key e) (besides_of_entry number e)
 
-  pub key_is : (e : Entry) → flat_map (key_spelling Second) (option_to_list (key_of_entry e)) ≡ key_bytes number e
+  pub key_is : (e : Entry) → flat_map (key_record_spelling Second) (option_to_list (key_of_entry e)) ≡ key_bytes number e
   key_is (Create slot floor begun time word) = append-nil _
   key_is (Put uid time word) = refl
   key_is (Delete slot) = append-nil _
   key_is (Floor w) = refl
   key_is (Seal uid w) = refl
 
-  pub log_is : (e : Entry) → flat_map log_spelling (option_to_list (log_of_entry e)) ≡ log_bytes number e
+  pub log_is : (e : Entry) → flat_map log_record_spelling (option_to_list (log_of_entry e)) ≡ log_bytes number e
   log_is (Create slot floor begun time word) = append-nil _
   log_is (Put uid time word) = append-nil _
   log_is (Delete slot) = refl
   log_is (Floor w) = append-nil _
   log_is (Seal uid w) = append-nil _
 
-  pub key_held : (e : Entry) → IsNumber number → InLimits e → IsNamed e → AllByRecursion (IsKeyRecord Second false) (option_to_list (key_of_entry e))
+  pub key_held : (e : Entry) → IsNumber number → EntryInLimits e → IsNamed e → AllByRecursion (IsKeyRecord Second false) (option_to_list (key_of_entry e))
   key_held (Create slot floor begun time word) is limits named = ((refl, record { number = is; slot = limits.0; floor = limits.1; name = named }), tt)
   key_held (Put uid time word) is limits named = tt
   key_held (Delete slot) is limits named = ((refl, record { number = is; slot = limits }), tt)
@@ -67,7 +67,7 @@ module _ (name key : List ℕ) (number : ℕ) where
   grown : (c : Change) (share : JournalShare) → sum_by weight (c ∷ map (λ b. b.change) share.buffered) ≡ weight c + weight_by share
   grown c share = sum_by-cons weight c (map (λ b. b.change) share.buffered)
 
-  pub weight_is : (e : Entry) (share : JournalShare) → weight_by (journal_with (change_of name key e) (besides_of number e) share) ≡ weight_by share + entry_weight e
+  pub weight_is : (e : Entry) (share : JournalShare) → weight_by (journal_with (change_of name key e) (besides_of_entry number e) share) ≡ weight_by share + entry_weight e
   weight_is (Create slot floor begun time word) share = grown (change_of name key (Create slot floor begun time word)) share ∙ turned 21 (weight_by share)
   weight_is (Put uid time word) share = grown (change_of name key (Put uid time word)) share ∙ turned 21 (weight_by share)
   weight_is (Delete slot) share = grown (change_of name key (Delete slot)) share ∙ turned 0 (weight_by share)
@@ -81,7 +81,7 @@ module _ (name key : List ℕ) (number : ℕ) where
   window_is (Floor w) top = refl
   window_is (Seal uid w) top = refl
 
-  pub log_held : (e : Entry) → IsNumber number → InLimits e → FitWords e → AllByRecursion IsRecord (option_to_list (log_of_entry e))
+  pub log_held : (e : Entry) → IsNumber number → EntryInLimits e → FitWords e → AllByRecursion IsLogRecord (option_to_list (log_of_entry e))
   log_held (Create slot floor begun time word) is limits fits = (record { uid = is; time = limits.2; word = fits }, tt)
   log_held (Put uid time word) is limits fits = (record { uid = limits.0; time = limits.1; word = fits }, tt)
   log_held (Delete slot) is limits fits = tt
@@ -90,9 +90,9 @@ module _ (name key : List ℕ) (number : ℕ) where
 
 -- ---- a journal with an entry more
 
-module _ (p : Pending) (share : JournalShare) (stands : Stands p share) (name key : List ℕ) (e : Entry) where
+module _ (p : Pending) (share : JournalShare) (stands : PendingStands p share) (name key : List ℕ) (e : Entry) where
   abbrev after : JournalShare
-  after = journal_with (change_of name key e) (besides_of p.next e) share
+  after = journal_with (change_of name key e) (besides_of_entry p.next e) share
 
   abbrev old : ℕ
   old = first_number share
@@ -103,11 +103,11 @@ module _ (p : Pending) (share : JournalShare) (stands : Stands p share) (name ke
   next_is : old + length share.buffered ≡ p.next
   next_is = omega (arith, stands.numbers, stands.next)
 
-  records_are : key_records (first_number after) after.buffered ≡ key_records old share.buffered ++ option_to_list (key_of_entry name key p.next e)
-  records_are = ap (λ n. key_records n share.buffered ++ option_to_list (created (n + length share.buffered) (change_of name key e) (besides_of p.next e))) first_stays
-      ∙ ap (λ n. key_records old share.buffered ++ option_to_list (created n (change_of name key e) (besides_of p.next e))) next_is
+  records_are : key_records_waiting (first_number after) after.buffered ≡ key_records_waiting old share.buffered ++ option_to_list (key_of_entry name key p.next e)
+  records_are = ap (λ n. key_records_waiting n share.buffered ++ option_to_list (created_by (n + length share.buffered) (change_of name key e) (besides_of_entry p.next e))) first_stays
+      ∙ ap (λ n. key_records_waiting old share.buffered ++ option_to_list (created_by n (change_of name key e) (besides_of_entry p.next e))) next_is
 
-  pub stands_with : IsNumber p.next → InLimits e → IsNamed e → FitWords e → Stands (with_entry e p) after
+  pub stands_with : IsNumber p.next → EntryInLimits e → IsNamed e → FitWords e → PendingStands (with_entry e p) after
   stands_with is limits named fits = record {
     stopped = stands.stopped;
     next = ap (λ n. n + 1) stands.next;
@@ -116,21 +116,21 @@ module _ (p : Pending) (share : JournalShare) (stands : Stands p share) (name ke
     buffered = ap (λ n. n + entry_weight e) stands.buffered ∙ sym (weight_is name key p.next e share);
     top = ap (greater (entry_window e)) stands.top ∙ window_is name key p.next e (greatest_window share.buffered);
     keys = ap (λ l. l ++ key_bytes p.next e) stands.keys
-        ∙ sym (ap (flat_map (key_spelling Second)) records_are ∙ flat_map-append (key_spelling Second) (key_records old share.buffered) (option_to_list (key_of_entry name key p.next e))
-        ∙ ap (λ l. flat_map (key_spelling Second) (key_records old share.buffered) ++ l) (key_is name key p.next e));
+        ∙ sym (ap (flat_map (key_record_spelling Second)) records_are ∙ flat_map-append (key_record_spelling Second) (key_records_waiting old share.buffered) (option_to_list (key_of_entry name key p.next e))
+        ∙ ap (λ l. flat_map (key_record_spelling Second) (key_records_waiting old share.buffered) ++ l) (key_is name key p.next e));
     log = ap (λ l. l ++ log_bytes p.next e) stands.log
-        ∙ sym (flat_map-append log_spelling (log_records share.buffered) (option_to_list (log_of_entry name key p.next e))
-        ∙ ap (λ l. flat_map log_spelling (log_records share.buffered) ++ l) (log_is name key p.next e));
+        ∙ sym (flat_map-append log_record_spelling (log_records_waiting share.buffered) (option_to_list (log_of_entry name key p.next e))
+        ∙ ap (λ l. flat_map log_record_spelling (log_records_waiting share.buffered) ++ l) (log_is name key p.next e));
     limits = record {
       keys = subst (AllByRecursion (IsKeyRecord Second false)) (sym records_are)
-          (all_joined (IsKeyRecord Second false) (key_records old share.buffered) (option_to_list (key_of_entry name key p.next e)) stands.limits.keys (key_held name key p.next e is limits named));
-      log = all_joined IsRecord (log_records share.buffered) (option_to_list (log_of_entry name key p.next e)) stands.limits.log (log_held name key p.next e is limits fits);
+          (all_joined (IsKeyRecord Second false) (key_records_waiting old share.buffered) (option_to_list (key_of_entry name key p.next e)) stands.limits.keys (key_held name key p.next e is limits named));
+      log = all_joined IsLogRecord (log_records_waiting share.buffered) (option_to_list (log_of_entry name key p.next e)) stands.limits.log (log_held name key p.next e is limits fits);
     };
   }
 
 -- ---- a journal that is stopped, or from which all was taken
 
-pub stands_stopped : (p : Pending) (share : JournalShare) → Stands p share → Stands (stopping p) (journal_stopped share)
+pub stands_stopped : (p : Pending) (share : JournalShare) → PendingStands p share → PendingStands (stopping p) (journal_stopped share)
 stands_stopped p share stands = record {
   stopped = refl;
   next = stands.next;

@@ -29,7 +29,7 @@ pending_of buffers next buffered stopped = record {
 }
 
 -- beside it, how many bytes the two lists of bytes may grow by without memory
-pub record Kept : Type 0 where
+pub record KeptJournal : Type 0 where
   pub pending : Pending
   pub key_room : ℕ
   pub log_room : ℕ

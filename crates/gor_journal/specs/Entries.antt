@@ -8,21 +8,21 @@ use Rattle.gor_model.specs.declared.event.Change.{Change}
 use Rattle.gor_model.specs.declared.event.Change.TheVariants as change
 use Rattle.gor_model.specs.declared.unit.Unit.TheVariants.{Second}
 use Rattle.gor_keys.specs.declared.record.KeyRecord.TheVariants as key
-use Rattle.gor_keys.specs.Spelling.{last_slot, IsFloor}
-use Rattle.gor_keys.specs.Spelling.{record_spelling as key_spelling}
+use Rattle.gor_keys.specs.Spelling.{last_slot, IsFloorInUnit}
+use Rattle.gor_keys.specs.Spelling.{key_record_spelling}
 use Rattle.gor_log.specs.declared.record.LogRecord.TheVariants as log
-use Rattle.gor_log.specs.Spelling.{record_spelling as log_spelling}
+use Rattle.gor_log.specs.Spelling.{log_record_spelling}
 use Rattle.gor_journal.specs.declared.entry.Entry.{Entry}
 use Rattle.gor_journal.specs.declared.entry.Entry.TheVariants.{Create, Put, Delete, Floor, Seal}
 
 -- ---- limits
 
-abbrev pub InLimits : Entry → Type 0
-InLimits (Create slot floor name time word) = (slot ≤ last_slot Second) × IsFloor Second floor × (time ≤ greatest_time)
-InLimits (Put uid time word) = IsNumber uid × (time ≤ greatest_time)
-InLimits (Delete slot) = slot ≤ last_slot Second
-InLimits (Floor w) = w ≤ last_window
-InLimits (Seal uid w) = IsNumber uid × (w ≤ last_window)
+abbrev pub EntryInLimits : Entry → Type 0
+EntryInLimits (Create slot floor name time word) = (slot ≤ last_slot Second) × IsFloorInUnit Second floor × (time ≤ greatest_time)
+EntryInLimits (Put uid time word) = IsNumber uid × (time ≤ greatest_time)
+EntryInLimits (Delete slot) = slot ≤ last_slot Second
+EntryInLimits (Floor w) = w ≤ last_window
+EntryInLimits (Seal uid w) = IsNumber uid × (w ≤ last_window)
 
 -- what a name's type keeps
 abbrev pub IsNamed : Entry → Type 0
@@ -39,16 +39,16 @@ FitWords _ = ⊤
 
 -- a Create has the number of the change as the uid of its series, and its put stands in the log besides
 abbrev pub key_bytes : ℕ → Entry → List ℕ
-key_bytes number (Create slot floor name time word) = key_spelling Second (key.Create number slot floor name.now)
-key_bytes number (Delete slot) = key_spelling Second (key.Delete number slot)
+key_bytes number (Create slot floor name time word) = key_record_spelling Second (key.Create number slot floor name.now)
+key_bytes number (Delete slot) = key_record_spelling Second (key.Delete number slot)
 key_bytes number _ = []
 
 abbrev pub log_bytes : ℕ → Entry → List ℕ
-log_bytes number (Create slot floor name time word) = log_spelling (log.Put number time word)
-log_bytes number (Put uid time word) = log_spelling (log.Put uid time word)
+log_bytes number (Create slot floor name time word) = log_record_spelling (log.Put number time word)
+log_bytes number (Put uid time word) = log_record_spelling (log.Put uid time word)
 log_bytes number (Delete slot) = []
-log_bytes number (Floor w) = log_spelling (log.Floor w)
-log_bytes number (Seal uid w) = log_spelling (log.Seal uid w)
+log_bytes number (Floor w) = log_record_spelling (log.Floor w)
+log_bytes number (Seal uid w) = log_record_spelling (log.Seal uid w)
 
 -- ---- how many bytes it may need: the head of a body, its record, and a byte behind the body
 
@@ -93,9 +93,9 @@ change_of name key (Delete slot) = change.Del key
 change_of name key (Floor w) = change.Floor w
 change_of name key (Seal uid w) = change.Seal key w
 
-abbrev pub besides_of : ℕ → Entry → Besides
-besides_of number (Create slot floor name time word) = Begins number slot floor
-besides_of number (Put uid time word) = OfSeries uid
-besides_of number (Delete slot) = Frees slot
-besides_of number (Floor w) = Nothing
-besides_of number (Seal uid w) = OfSeries uid
+abbrev pub besides_of_entry : ℕ → Entry → Besides
+besides_of_entry number (Create slot floor name time word) = Begins number slot floor
+besides_of_entry number (Put uid time word) = OfSeries uid
+besides_of_entry number (Delete slot) = Frees slot
+besides_of_entry number (Floor w) = Nothing
+besides_of_entry number (Seal uid w) = OfSeries uid

@@ -7,19 +7,19 @@ use Rattle.gor_model.specs.declared.event.Change.TheVariants as change
 use Rattle.gor_model.specs.declared.unit.Unit.TheVariants.{Second}
 use Rattle.gor_keys.specs.declared.record.KeyRecord.{KeyRecord}
 use Rattle.gor_keys.specs.declared.record.KeyRecord.TheVariants.{Create, Delete}
-use Rattle.gor_keys.specs.Spelling.{spelling as keys_spelling}
+use Rattle.gor_keys.specs.Spelling.{keys_spelling}
 use Rattle.gor_log.specs.declared.record.LogRecord.{LogRecord}
 use Rattle.gor_log.specs.declared.record.LogRecord.TheVariants.{Put, Floor, Seal}
 use Rattle.gor_log.specs.Reading.{batch}
-use Rattle.gor_log.specs.Spelling.{spelling as log_spelling}
+use Rattle.gor_log.specs.Spelling.{batch_spelling}
 use Rattle.gor_journal.specs.Entries.{greater}
 
 -- ---- the records of one change: a put that begins a series has one in the key list and one in the log
 
-abbrev pub created : ℕ → Change → Besides → Option KeyRecord
-created number (change.Put name key time word) (Begins uid slot floor) = Some (Create number slot floor name)
-created number (change.Del key) (Frees slot) = Some (Delete number slot)
-created number c besides = None
+abbrev pub created_by : ℕ → Change → Besides → Option KeyRecord
+created_by number (change.Put name key time word) (Begins uid slot floor) = Some (Create number slot floor name)
+created_by number (change.Del key) (Frees slot) = Some (Delete number slot)
+created_by number c besides = None
 
 abbrev pub logged : Change → Besides → Option LogRecord
 logged (change.Put name key time word) (OfSeries uid) = Some (Put uid time word)
@@ -34,13 +34,13 @@ point_window c = None
 
 -- ---- of some changes, the newest first, where the oldest of them has the number `first`; the records stand in order
 
-abbrev pub key_records : ℕ → List Buffered → List KeyRecord
-key_records first [] = []
-key_records first (b ∷ older) = key_records first older ++ option_to_list (created (first + length older) b.change b.besides)
+abbrev pub key_records_waiting : ℕ → List Buffered → List KeyRecord
+key_records_waiting first [] = []
+key_records_waiting first (b ∷ older) = key_records_waiting first older ++ option_to_list (created_by (first + length older) b.change b.besides)
 
-abbrev pub log_records : List Buffered → List LogRecord
-log_records [] = []
-log_records (b ∷ older) = log_records older ++ option_to_list (logged b.change b.besides)
+abbrev pub log_records_waiting : List Buffered → List LogRecord
+log_records_waiting [] = []
+log_records_waiting (b ∷ older) = log_records_waiting older ++ option_to_list (logged b.change b.besides)
 
 abbrev pub greatest_window : List Buffered → Option ℕ
 greatest_window [] = None
@@ -56,7 +56,7 @@ keys_spelled (r ∷ records) = keys_spelling Second (r ∷ records)
 -- the batch of some changes in version 1, where there are any
 abbrev pub batch_spelled : ℕ → List Buffered → List ℕ
 batch_spelled first [] = []
-batch_spelled first (b ∷ older) = log_spelling (batch first (first + length older) (log_records (b ∷ older)))
+batch_spelled first (b ∷ older) = batch_spelling (batch first (first + length older) (log_records_waiting (b ∷ older)))
 
 -- the number of the oldest change that waits
 abbrev pub first_number : JournalShare → ℕ

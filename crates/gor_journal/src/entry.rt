@@ -1,7 +1,7 @@
 //! A change as it is appended to a journal.
 ghost use Rattle.std.specs.Prelude.{◌≡◌, ◌≤◌};
 ghost use Rattle.gor_model.specs.Windows.{window, greatest_time};
-ghost use Rattle.gor_journal.specs.Entries.{InLimits, entry_weight, entry_window, key_need, log_need, greater};
+ghost use Rattle.gor_journal.specs.Entries.{EntryInLimits, entry_weight, entry_window, key_need, log_need, greater};
 
 use gor_model::windows;
 use gor_name::Name;
@@ -54,7 +54,7 @@ pub(crate) fn weight_of(entry: &Entry) -> u64
 
 /// The window of a put's point.
 pub(crate) fn window_of(entry: &Entry) -> Option<u32>
-    requires { InLimits entry.now }
+    requires { EntryInLimits entry.now }
     ensures { result ≡ entry_window entry.now }
 {
     match entry {

@@ -4,10 +4,10 @@ ghost use Rattle.gor_model.specs.Shares.{JournalShare, journal_share};
 ghost use Rattle.gor_model.specs.SharesAfter.{journal_taken, journal_stopped};
 ghost use Rattle.gor_model.specs.declared.start.Start.{Start};
 ghost use Rattle.gor_journal.specs.Bodies.{IsWaiting, AreEmpty, HoldAll, pending_of, with_entry, emptied, stopping, fresh};
-ghost use Rattle.gor_journal.specs.Entries.{InLimits, key_need, log_need};
-ghost use Rattle.gor_journal.specs.Events.{Makes, IsTake, IsStop, StandsAfter, AddsChange};
+ghost use Rattle.gor_journal.specs.Entries.{EntryInLimits, key_need, log_need};
+ghost use Rattle.gor_journal.specs.Events.{MakesEntry, IsTake, IsStop, PendingStandsAfter, AddsChange};
 ghost use Rattle.gor_journal.specs.Records.{first_number};
-ghost use Rattle.gor_journal.specs.Stands.{Stands, AreOf};
+ghost use Rattle.gor_journal.specs.Stands.{PendingStands, HoldBodiesOf};
 
 use crate::buffers::Buffers;
 use crate::entry::{Entry, greater, key_need, log_need, weight_of, window_of};
@@ -23,7 +23,7 @@ const LOG_ROOM: usize = 25 + DUE_WEIGHT as usize + 21 + 1;
 
 /// The changes of a shard that wait for the next flush, the number of the next one, and whether the shard is stopped.
 ///
-/// Contracts see the bytes of the records that wait. `Stands` of `specs` says for which share of the shard's history they stand, and
+/// Contracts see the bytes of the records that wait. `PendingStands` of `specs` says for which share of the shard's history they stand, and
 /// each call is one step of that share.
 #[derive(Drop)]
 pub struct Journal {
@@ -36,9 +36,9 @@ pub struct Journal {
 
 impl Model for Journal {
     ghost use Rattle.std.specs.Prelude.{◌-◌, vec_len, vec_capacity};
-    ghost use Rattle.gor_journal.specs.Bodies.{Kept, IsWaiting, pending_of};
+    ghost use Rattle.gor_journal.specs.Bodies.{KeptJournal, IsWaiting, pending_of};
 
-    ghost Value = { Kept };
+    ghost Value = { KeptJournal };
 
     ghost view = { λ j. record {
       pending = pending_of j.buffers j.next j.buffered j.stopped;
@@ -61,7 +61,7 @@ impl Journal {
         requires some { 1 ≤ next }
         requires limit { next ≤ 2 ^ 62 }
         ensures fresh { IfOk result (λ journal. journal.pending ≡ fresh next) }
-        ensures start { IfOk result (λ journal. (start : Start) → start.next ≡ next → Stands journal.pending (journal_share start [])) }
+        ensures start { IfOk result (λ journal. (start : Start) → start.next ≡ next → PendingStands journal.pending (journal_share start [])) }
     {
         let mut buffers = Buffers::new(alloc);
         buffers.log.reserve(LOG_ROOM)?;
@@ -105,8 +105,8 @@ impl Journal {
     /// Stops the shard, until it is opened again. It takes no memory.
     pub fn stop(&mut self)
         ensures stopping { self.new.pending ≡ stopping self.old.pending }
-        ensures stands { (share : JournalShare) → Stands self.old.pending share → Stands self.new.pending (journal_stopped share) }
-        ensures after { StandsAfter self.old.pending self.new.pending IsStop }
+        ensures stands { (share : JournalShare) → PendingStands self.old.pending share → PendingStands self.new.pending (journal_stopped share) }
+        ensures after { PendingStandsAfter self.old.pending self.new.pending IsStop }
     {
         self.stopped = true;
     }
@@ -126,13 +126,13 @@ impl Journal {
         requires key_room { key_need entry.now ≤ self.old.key_room }
         requires log_room { log_need entry.now ≤ self.old.log_room }
         requires running { self.old.pending.stopped ≡ false }
-        requires limits { InLimits entry.now }
+        requires limits { EntryInLimits entry.now }
         requires next { self.old.pending.next < 2 ^ 62 + 2 ^ 45 }
         requires buffered { self.old.pending.buffered < 2 ^ 50 }
         ensures number { result ≡ self.old.pending.next }
         ensures added { self.new.pending ≡ with_entry entry.now self.old.pending }
         ensures stands { AddsChange result entry.now self.old.pending self.new.pending }
-        ensures after { StandsAfter self.old.pending self.new.pending (Makes entry.now) }
+        ensures after { PendingStandsAfter self.old.pending self.new.pending (MakesEntry entry.now) }
     {
         let number = self.next;
         put_keys(&mut self.buffers.keys, number, entry);
@@ -150,9 +150,9 @@ impl Journal {
         requires { AreEmpty buffers.old }
         ensures left { self.new.pending ≡ emptied self.old.pending }
         ensures taken { HoldAll self.old.pending buffers.new }
-        ensures stands { (share : JournalShare) → Stands self.old.pending share → Stands self.new.pending (journal_taken share) }
-        ensures after { StandsAfter self.old.pending self.new.pending IsTake }
-        ensures changes { (share : JournalShare) → Stands self.old.pending share → AreOf (first_number share) share.buffered buffers.new }
+        ensures stands { (share : JournalShare) → PendingStands self.old.pending share → PendingStands self.new.pending (journal_taken share) }
+        ensures after { PendingStandsAfter self.old.pending self.new.pending IsTake }
+        ensures changes { (share : JournalShare) → PendingStands self.old.pending share → HoldBodiesOf (first_number share) share.buffered buffers.new }
     {
         close(&mut self.buffers, self.next);
         mem::swap(&mut self.buffers, buffers);

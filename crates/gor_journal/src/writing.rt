@@ -3,9 +3,9 @@ ghost use Rattle.std.specs.Prelude.{◌≡◌, ℕ, ◌+◌, ◌<◌, ◌≤◌,
 ghost use Rattle.std.specs.Int.{w32, w64, to_be_bytes};
 ghost use Rattle.gor_model.specs.Names.{IsName};
 ghost use Rattle.gor_model.specs.declared.unit.Unit.TheVariants.{Second};
-ghost use Rattle.gor_keys.specs.Spelling.{series, series_fields, IsFloor};
+ghost use Rattle.gor_keys.specs.Spelling.{series, series_fields, IsFloorInUnit};
 ghost use Rattle.gor_journal.specs.Bodies.{stored, key_body, begun_body, log_body, HasPlace};
-ghost use Rattle.gor_journal.specs.Entries.{InLimits, IsNamed, FitWords, key_bytes, log_bytes, key_need, log_need};
+ghost use Rattle.gor_journal.specs.Entries.{EntryInLimits, IsNamed, FitWords, key_bytes, log_bytes, key_need, log_need};
 
 use crate::entry::Entry;
 use byteorder::{BigEndian, ByteOrder};
@@ -30,7 +30,7 @@ fn put_name(name: &Name, out: &mut Vec<u8>)
 
 fn put_create(number: u64, slot: u32, floor: u64, name: &Name, out: &mut Vec<u8>)
     requires room { vec_len out.old + 18 + length name.now ≤ vec_capacity out.old }
-    requires floor { IsFloor Second floor }
+    requires floor { IsFloorInUnit Second floor }
     ensures items { out.new.items ≡ out.old.items ++ 1 ∷ series_fields Second (series number slot floor name.now) }
     ensures len { vec_len out.new ≡ vec_len out.old + 18 + length name.now }
     ensures capacity { vec_capacity out.old ≤ vec_capacity out.new }
@@ -72,7 +72,7 @@ pub(crate) fn put_keys(out: &mut Vec<u8>, number: u64, entry: &Entry)
     requires waits { out.old.items ≡ stored (key_body (drop 9 out.old.items)) }
     requires room { vec_len out.old + key_need entry.now ≤ vec_capacity out.old }
     requires place { HasPlace (vec_len out.old) (vec_capacity out.old) }
-    requires limits { InLimits entry.now }
+    requires limits { EntryInLimits entry.now }
     ensures items { out.new.items ≡ stored (key_body (drop 9 out.old.items ++ key_bytes number entry.now)) }
     ensures place { HasPlace (vec_len out.new) (vec_capacity out.new) }
     ensures name { IsNamed entry.now }
@@ -132,7 +132,7 @@ fn put_seal(uid: u64, window: u32, out: &mut Vec<u8>)
 
 fn put_record(number: u64, entry: &Entry, out: &mut Vec<u8>)
     requires room { vec_len out.old + log_need entry.now ≤ vec_capacity out.old + 25 }
-    requires limits { InLimits entry.now }
+    requires limits { EntryInLimits entry.now }
     ensures items { out.new.items ≡ out.old.items ++ log_bytes number entry.now }
     ensures place { vec_len out.new < vec_capacity out.new }
     ensures words { FitWords entry.now }
@@ -164,7 +164,7 @@ fn begin_log(changes: u64, out: &mut Vec<u8>)
 pub(crate) fn put_log(out: &mut Vec<u8>, changes: u64, number: u64, entry: &Entry)
     requires waits { out.old.items ≡ stored (begun_body changes (drop 25 out.old.items)) }
     requires room { vec_len out.old + log_need entry.now ≤ vec_capacity out.old }
-    requires limits { InLimits entry.now }
+    requires limits { EntryInLimits entry.now }
     ensures items { out.new.items ≡ stored (begun_body (changes + 1) (drop 25 out.old.items ++ log_bytes number entry.now)) }
     ensures place { vec_len out.new < vec_capacity out.new }
     ensures words { FitWords entry.now }

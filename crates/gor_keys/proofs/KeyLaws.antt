@@ -11,31 +11,31 @@ use Rattle.gor_model.specs.declared.unit.Unit.TheVariants.{Second, Milli}
 use Rattle.gor_model.specs.declared.wrong.Wrong.{Wrong}
 use Rattle.gor_model.specs.declared.wrong.Wrong.TheVariants.{Short, Value}
 use Rattle.gor_model.specs.declared.wrong.Misread.{Misread}
-use Rattle.gor_model.specs.Fields.{IsBytes, number_in, is_number}
+use Rattle.gor_model.specs.Fields.{IsBytes, field_in, is_number}
 use Rattle.gor_model.proofs.FieldLaws.{guard_ok, guard_held, and_true, ok_is, number_held, number_tested, number_parts, wide32, wide64}
 use Rattle.gor_name.specs.NameTest.{is_name}
 use Rattle.gor_name.proofs.NameLaws.{name_of, test_of}
 use Rattle.gor_keys.specs.declared.record.Series.{Series}
 use Rattle.gor_keys.specs.declared.record.KeyRecord.{KeyRecord}
 use Rattle.gor_keys.specs.declared.record.KeyRecord.TheVariants.{Delete}
-use Rattle.gor_keys.specs.Spelling.{last_slot, floor_bytes, IsFloor, IsSeries, IsPlace, series, IsRecord, series_fields, record_spelling}
-use Rattle.gor_keys.specs.Reading.{is_slot, is_floor, floor_in, length_at, name_at, name_len, name_in, series_in, delete_in}
+use Rattle.gor_keys.specs.Spelling.{last_slot, floor_bytes, IsFloorInUnit, SeriesInLimits, IsPlace, series, IsKeyRecord, series_fields, key_record_spelling}
+use Rattle.gor_keys.specs.Reading.{is_slot, is_floor_in_unit, floor_field_in, length_at, name_at, name_len, name_in, series_record_in, delete_in}
 
 abbrev pub at_fault : ℕ → Wrong → Misread
 at_fault at kind = record { at = at; kind = kind }
 
 -- ---- floors
 
-floor_parts : (unit : TimeUnit) (fields : List ℕ) → name_at unit ≤ length fields → IsBytes fields → drop 12 fields ≡ floor_bytes unit (floor_in unit fields) ++ drop (length_at unit) fields
+floor_parts : (unit : TimeUnit) (fields : List ℕ) → name_at unit ≤ length fields → IsBytes fields → drop 12 fields ≡ floor_bytes unit (floor_field_in unit fields) ++ drop (length_at unit) fields
 floor_parts Second fields long fits = number_parts w32 (2 ^ 32) wide32 12 fields (omega arith) fits
 floor_parts Milli fields long fits = number_parts w64 (2 ^ 64) wide64 12 fields (omega arith) fits
 
-floor_held : (unit : TimeUnit) (floor : ℕ) → is_floor unit floor ≡ true → IsFloor unit floor
+floor_held : (unit : TimeUnit) (floor : ℕ) → is_floor_in_unit unit floor ≡ true → IsFloorInUnit unit floor
 floor_held unit floor e =
     let g = and_true (eqb (floor % window_length unit) 0) (leb floor (end_in unit last_window)) e in
     record { whole = eqb-true _ _ g.0; last = leb-true _ _ g.1 }
 
-floor_tested : (unit : TimeUnit) (floor : ℕ) → IsFloor unit floor → is_floor unit floor ≡ true
+floor_tested : (unit : TimeUnit) (floor : ℕ) → IsFloorInUnit unit floor → is_floor_in_unit unit floor ≡ true
 floor_tested unit floor is = both_true (rw is.whole refl) (le-leb floor (end_in unit last_window) is.last)
 
 -- ---- the fields of a series
@@ -44,21 +44,21 @@ cell_parts : (k : ℕ) (bytes : List ℕ) → k < length bytes → drop k bytes 
 cell_parts k bytes lt = drop_more bytes k 0 lt
 
 abbrev TakesSeries : TimeUnit → List ℕ → Series × ℕ → Type 0
-TakesSeries unit fields x = (fields ≡ series_fields unit x.0 ++ drop x.1 fields) × IsSeries unit x.0
+TakesSeries unit fields x = (fields ≡ series_fields unit x.0 ++ drop x.1 fields) × SeriesInLimits unit x.0
 
-pub series_takes : (unit : TimeUnit) (at : ℕ) (fields : List ℕ) (x : Series × ℕ) → IsBytes fields → series_in unit at fields ≡ Ok x → TakesSeries unit fields x
-unfolding series_in
+pub series_takes : (unit : TimeUnit) (at : ℕ) (fields : List ℕ) (x : Series × ℕ) → IsBytes fields → series_record_in unit at fields ≡ Ok x → TakesSeries unit fields x
+unfolding series_record_in
 series_takes unit at fields x fits e =
-    let number = number_in w64 0 fields in
-    let slot = number_in w32 8 fields in
-    let floor = floor_in unit fields in
+    let number = field_in w64 0 fields in
+    let slot = field_in w32 8 fields in
+    let floor = floor_field_in unit fields in
     let len = name_len unit fields in
     let name = name_in unit fields in
     let a = guard_ok (ltb (length fields) (name_at unit)) (at_fault at Short) _ x e in
     let b = guard_ok (ltb (length fields) (name_at unit + len)) (at_fault at Short) _ x a.1 in
     let n = guard_held (is_number number) (at_fault (at + 1) Value) _ x b.1 in
     let s = guard_held (is_slot unit slot) (at_fault (at + 9) Value) _ x n.1 in
-    let f = guard_held (is_floor unit floor) (at_fault (at + 13) Value) _ x s.1 in
+    let f = guard_held (is_floor_in_unit unit floor) (at_fault (at + 13) Value) _ x s.1 in
     let l = guard_ok (eqb len 0) (at_fault (at + 1 + length_at unit) Value) _ x f.1 in
     let t = guard_held (is_name name) (at_fault (at + 1 + name_at unit) Value) _ x l.1 in
     let long : name_at unit ≤ length fields = ltb-false _ _ a.0 in
@@ -74,7 +74,7 @@ series_takes unit at fields x fits e =
     number_parts w32 (2 ^ 32) wide32 8 fields (omega arith) fits ∙ ap (λ (r : List ℕ). to_be_bytes w32 slot ++ r) from12 in
     let parts : fields ≡ to_be_bytes w64 number ++ (to_be_bytes w32 slot ++ ((floor_bytes unit floor ++ length name ∷ name) ++ rest)) =
     number_parts w64 (2 ^ 64) wide64 0 fields (omega arith) fits ∙ ap (λ (r : List ℕ). to_be_bytes w64 number ++ r) from8 in
-    let is : IsSeries unit (series number slot floor name) = record { number = number_held number n.0; slot = leb-true _ _ s.0; floor = floor_held unit floor f.0; name = name_of name t.0 } in
+    let is : SeriesInLimits unit (series number slot floor name) = record { number = number_held number n.0; slot = leb-true _ _ s.0; floor = floor_held unit floor f.0; name = name_of name t.0 } in
     subst (TakesSeries unit fields) (ok_is (series number slot floor name, name_at unit + len) x t.1) (parts, is)
 
 abbrev name_test : TimeUnit → List ℕ → Bool
@@ -82,21 +82,21 @@ name_test unit fields = is_name (name_in unit fields)
 
 -- the steps of reading a series, where each test goes well
 series_reads : (unit : TimeUnit) (at : ℕ) (fields : List ℕ) (s : Series) (len : ℕ) → name_at unit + len ≤ length fields
-    → number_in w64 0 fields ≡ s.number → number_in w32 8 fields ≡ s.slot → floor_in unit fields ≡ s.floor → name_len unit fields ≡ len → name_in unit fields ≡ s.name
-    → len ≢ 0 → IsSeries unit s → series_in unit at fields ≡ Ok (s, name_at unit + len)
-unfolding series_in
+    → field_in w64 0 fields ≡ s.number → field_in w32 8 fields ≡ s.slot → floor_field_in unit fields ≡ s.floor → name_len unit fields ≡ len → name_in unit fields ≡ s.name
+    → len ≢ 0 → SeriesInLimits unit s → series_record_in unit at fields ≡ Ok (s, name_at unit + len)
+unfolding series_record_in
 series_reads unit at fields s len whole n l f c t some is =
     let long : ltb (length fields) (name_at unit) ≡ false = le-ltb _ _ (omega arith) in
     let all : ltb (length fields) (name_at unit + name_len unit fields) ≡ false = le-ltb _ _ (rw c whole) in
-    let number : is_number (number_in w64 0 fields) ≡ true = rw n (number_tested s.number is.number) in
-    let slot : is_slot unit (number_in w32 8 fields) ≡ true = rw l (le-leb s.slot (last_slot unit) is.slot) in
-    let floor : is_floor unit (floor_in unit fields) ≡ true = rw f (floor_tested unit s.floor is.floor) in
+    let number : is_number (field_in w64 0 fields) ≡ true = rw n (number_tested s.number is.number) in
+    let slot : is_slot unit (field_in w32 8 fields) ≡ true = rw l (le-leb s.slot (last_slot unit) is.slot) in
+    let floor : is_floor_in_unit unit (floor_field_in unit fields) ≡ true = rw f (floor_tested unit s.floor is.floor) in
     let none : eqb (name_len unit fields) 0 ≡ false = rw c (ne_eqb len 0 some) in
     let name : name_test unit fields ≡ true = rw t (test_of s.name is.name) in
-    let made : (series (number_in w64 0 fields) (number_in w32 8 fields) (floor_in unit fields) (name_in unit fields), name_at unit + name_len unit fields) ≡ (s, name_at unit + len) = rw (n, l, f, t, c) refl in
+    let made : (series (field_in w64 0 fields) (field_in w32 8 fields) (floor_field_in unit fields) (name_in unit fields), name_at unit + name_len unit fields) ≡ (s, name_at unit + len) = rw (n, l, f, t, c) refl in
     rw (long, all, number, slot, floor, none, name) (ap (λ (x : Series × ℕ). Ok x) made)
 
-pub series_again : (unit : TimeUnit) (at : ℕ) (s : Series) (rest : List ℕ) → IsSeries unit s → series_in unit at (series_fields unit s ++ rest) ≡ Ok (s, name_at unit + length s.name)
+pub series_again : (unit : TimeUnit) (at : ℕ) (s : Series) (rest : List ℕ) → SeriesInLimits unit s → series_record_in unit at (series_fields unit s ++ rest) ≡ Ok (s, name_at unit + length s.name)
 series_again Second at s rest is =
     series_reads Second at (series_fields Second s ++ rest) s (length s.name) (omega (arith, length-append s.name rest))
     (from_be_bytes-to_be_bytes_8 s.number (omega (arith, is.number.1))) (from_be_bytes-to_be_bytes_4 s.slot (omega (arith, is.slot))) (from_be_bytes-to_be_bytes_4 s.floor (omega (arith, is.floor.last)))
@@ -113,13 +113,13 @@ fields_len Milli s = omega arith
 -- ---- a delete
 
 abbrev pub TakesRecord : TimeUnit → Bool → List ℕ → KeyRecord × ℕ → Type 0
-TakesRecord unit live bytes x = (bytes ≡ record_spelling unit x.0 ++ drop x.1 bytes) × IsRecord unit live x.0
+TakesRecord unit live bytes x = (bytes ≡ key_record_spelling unit x.0 ++ drop x.1 bytes) × IsKeyRecord unit live x.0
 
 pub delete_takes : (unit : TimeUnit) (at : ℕ) (fields : List ℕ) (x : KeyRecord × ℕ) → IsBytes fields → delete_in unit at fields ≡ Ok x → TakesRecord unit false (2 ∷ fields) x × (1 ≤ x.1)
 unfolding delete_in
 delete_takes unit at fields x fits e =
-    let number = number_in w64 0 fields in
-    let slot = number_in w32 8 fields in
+    let number = field_in w64 0 fields in
+    let slot = field_in w32 8 fields in
     let a = guard_ok (ltb (length fields) 12) (at_fault at Short) _ x e in
     let n = guard_held (is_number number) (at_fault (at + 1) Value) _ x a.1 in
     let s = guard_held (is_slot unit slot) (at_fault (at + 9) Value) _ x n.1 in
@@ -134,8 +134,8 @@ pub delete_again : (unit : TimeUnit) (at number slot : ℕ) (rest : List ℕ) �
 unfolding delete_in
 delete_again unit at number slot rest is small =
     let fields = to_be_bytes w64 number ++ (to_be_bytes w32 slot ++ rest) in
-    let n : number_in w64 0 fields ≡ number = from_be_bytes-to_be_bytes_8 number (omega (arith, is.number.1)) in
-    let s : number_in w32 8 fields ≡ slot = from_be_bytes-to_be_bytes_4 slot small in
+    let n : field_in w64 0 fields ≡ number = from_be_bytes-to_be_bytes_8 number (omega (arith, is.number.1)) in
+    let s : field_in w32 8 fields ≡ slot = from_be_bytes-to_be_bytes_4 slot small in
     let long : ltb (length fields) 12 ≡ false = le-ltb _ _ (omega arith) in
     rw (long, n, s, number_tested number is.number, le-leb slot (last_slot unit) is.slot) refl
 
@@ -146,8 +146,8 @@ small_slot Milli slot le = omega arith
 pub delete_moves : (unit : TimeUnit) (at : ℕ) (fields : List ℕ) (x : KeyRecord × ℕ) → delete_in unit at fields ≡ Ok x → 1 ≤ x.1
 unfolding delete_in
 delete_moves unit at fields x e =
-    let number = number_in w64 0 fields in
-    let slot = number_in w32 8 fields in
+    let number = field_in w64 0 fields in
+    let slot = field_in w32 8 fields in
     let a = guard_ok (ltb (length fields) 12) (at_fault at Short) _ x e in
     let n = guard_held (is_number number) (at_fault (at + 1) Value) _ x a.1 in
     let s = guard_held (is_slot unit slot) (at_fault (at + 9) Value) _ x n.1 in

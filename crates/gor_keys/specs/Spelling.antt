@@ -31,16 +31,16 @@ floor_bytes Second floor = to_be_bytes w32 floor
 floor_bytes Milli floor = to_be_bytes w64 floor
 
 -- 0, or the end of a window
-pub record IsFloor (unit : TimeUnit) (floor : ℕ) : Type 0 where
+pub record IsFloorInUnit (unit : TimeUnit) (floor : ℕ) : Type 0 where
   pub whole : floor % window_length unit ≡ 0
   pub last : floor ≤ end_in unit last_window
 
 -- ---- limits
 
-pub record IsSeries (unit : TimeUnit) (series : Series) : Type 0 where
+pub record SeriesInLimits (unit : TimeUnit) (series : Series) : Type 0 where
   pub number : IsNumber series.number
   pub slot : series.slot ≤ last_slot unit
-  pub floor : IsFloor unit series.floor
+  pub floor : IsFloorInUnit unit series.floor
   pub name : IsName series.name
 
 pub record IsPlace (unit : TimeUnit) (n s : ℕ) : Type 0 where
@@ -51,29 +51,29 @@ abbrev pub series : ℕ → ℕ → ℕ → List ℕ → Series
 series number slot floor name = record { number = number; slot = slot; floor = floor; name = name }
 
 -- each field is in its limits, and Live records stand where they may
-abbrev pub IsRecord : TimeUnit → Bool → KeyRecord → Type 0
-IsRecord unit live (Create number slot floor name) = (live ≡ false) × IsSeries unit (series number slot floor name)
-IsRecord unit live (Delete number slot) = (live ≡ false) × IsPlace unit number slot
-IsRecord unit live (Live uid slot floor name) = (live ≡ true) × IsSeries unit (series uid slot floor name)
+abbrev pub IsKeyRecord : TimeUnit → Bool → KeyRecord → Type 0
+IsKeyRecord unit live (Create number slot floor name) = (live ≡ false) × SeriesInLimits unit (series number slot floor name)
+IsKeyRecord unit live (Delete number slot) = (live ≡ false) × IsPlace unit number slot
+IsKeyRecord unit live (Live uid slot floor name) = (live ≡ true) × SeriesInLimits unit (series uid slot floor name)
 
 abbrev pub AreRecords : TimeUnit → Bool → List KeyRecord → Type 0
-AreRecords unit live records = AllByRecursion (IsRecord unit live) records
+AreRecords unit live records = AllByRecursion (IsKeyRecord unit live) records
 
 -- the limits of a record whose name is one
-abbrev pub InLimits : TimeUnit → KeyRecord → Type 0
-InLimits unit (Create number slot floor name) = IsPlace unit number slot × IsFloor unit floor
-InLimits unit (Delete number slot) = IsPlace unit number slot
-InLimits unit (Live uid slot floor name) = IsPlace unit uid slot × IsFloor unit floor
+abbrev pub KeyRecordInLimits : TimeUnit → KeyRecord → Type 0
+KeyRecordInLimits unit (Create number slot floor name) = IsPlace unit number slot × IsFloorInUnit unit floor
+KeyRecordInLimits unit (Delete number slot) = IsPlace unit number slot
+KeyRecordInLimits unit (Live uid slot floor name) = IsPlace unit uid slot × IsFloorInUnit unit floor
 
 -- ---- spelling: numbers with the highest byte first
 
 abbrev pub series_fields : TimeUnit → Series → List ℕ
 series_fields unit s = to_be_bytes w64 s.number ++ (to_be_bytes w32 s.slot ++ (floor_bytes unit s.floor ++ length s.name ∷ s.name))
 
-abbrev pub record_spelling : TimeUnit → KeyRecord → List ℕ
-record_spelling unit (Create number slot floor name) = 1 ∷ series_fields unit (series number slot floor name)
-record_spelling unit (Delete number slot) = 2 ∷ (to_be_bytes w64 number ++ to_be_bytes w32 slot)
-record_spelling unit (Live uid slot floor name) = 3 ∷ series_fields unit (series uid slot floor name)
+abbrev pub key_record_spelling : TimeUnit → KeyRecord → List ℕ
+key_record_spelling unit (Create number slot floor name) = 1 ∷ series_fields unit (series number slot floor name)
+key_record_spelling unit (Delete number slot) = 2 ∷ (to_be_bytes w64 number ++ to_be_bytes w32 slot)
+key_record_spelling unit (Live uid slot floor name) = 3 ∷ series_fields unit (series uid slot floor name)
 
-abbrev pub spelling : TimeUnit → List KeyRecord → List ℕ
-spelling unit records = version unit ∷ flat_map (record_spelling unit) records
+abbrev pub keys_spelling : TimeUnit → List KeyRecord → List ℕ
+keys_spelling unit records = version unit ∷ flat_map (key_record_spelling unit) records

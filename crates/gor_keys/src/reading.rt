@@ -4,9 +4,9 @@ ghost use Rattle.gor_model.specs.Fields.{wrong};
 ghost use Rattle.gor_model.specs.declared.unit.Unit.{Unit as TimeUnit};
 ghost use Rattle.gor_name.specs.NameTest.{is_name};
 ghost use Rattle.gor_keys.specs.declared.record.KeyRecord.{KeyRecord};
-ghost use Rattle.gor_fields.specs.Readings.{Gives};
-ghost use Rattle.gor_keys.specs.Spelling.{AreRecords, floor_len, spelling};
-ghost use Rattle.gor_keys.specs.Reading.{is_slot, is_floor, floor_in, series_in, delete_in, record_in, records_in, keys_in, shown, in_unit, created, living, ReadsKeys};
+ghost use Rattle.gor_fields.specs.Readings.{GivesRead};
+ghost use Rattle.gor_keys.specs.Spelling.{AreRecords, floor_len, keys_spelling};
+ghost use Rattle.gor_keys.specs.Reading.{is_slot, is_floor_in_unit, floor_field_in, series_record_in, delete_in, key_record_in, key_records_in, keys_in, keys_shown, in_unit, create_record, living, ReadsKeys};
 
 use crate::KeyFault;
 use crate::record::{KeyBody, KeyRecord, Series};
@@ -34,14 +34,14 @@ fn is_slot(unit: Unit, slot: u32) -> bool
 }
 
 fn is_floor(unit: Unit, floor: u64) -> bool
-    ensures { result ≡ is_floor unit floor }
+    ensures { result ≡ is_floor_in_unit unit floor }
 {
     floor % unit.window_length() == 0 && floor <= unit.end_of(LAST_WINDOW)
 }
 
 fn floor_of(unit: Unit, fields: &[u8]) -> u64
     requires { 12 + floor_len unit ≤ length fields.now }
-    ensures { result ≡ floor_in unit fields.now }
+    ensures { result ≡ floor_field_in unit fields.now }
 {
     match unit {
         Unit::Second => u64::from(u32_in(fields, 12)),
@@ -65,10 +65,10 @@ fn name_of(alloc: Global, bytes: &[u8]) -> Result<Option<Name>, AllocError>
     }
 }
 
-#[tactic(auto, unfolding(crate::specs::Reading::series_in))]
+#[tactic(auto, unfolding(crate::specs::Reading::series_record_in))]
 fn series_of(alloc: Global, unit: Unit, at: u64, fields: &[u8]) -> Result<(Series, usize), KeyFault>
     requires { at + length fields.now + 1 < 2 ^ 64 }
-    ensures read { Gives (λ x. x) result (series_in unit at fields.now) }
+    ensures read { GivesRead (λ x. x) result (series_record_in unit at fields.now) }
     ensures len { IfOk result (λ x. x.1 ≤ length fields.now) }
 {
     let start = 13 + floor_len(unit);
@@ -111,7 +111,7 @@ fn series_of(alloc: Global, unit: Unit, at: u64, fields: &[u8]) -> Result<(Serie
 #[tactic(auto, unfolding(crate::specs::Reading::delete_in))]
 fn delete_of(unit: Unit, at: u64, fields: &[u8]) -> Result<(KeyRecord, usize), KeyFault>
     requires { at + length fields.now + 1 < 2 ^ 64 }
-    ensures read { Gives (λ x. x) result (delete_in unit at fields.now) }
+    ensures read { GivesRead (λ x. x) result (delete_in unit at fields.now) }
     ensures len { IfOk result (λ x. (1 ≤ x.1) × (x.1 ≤ length fields.now + 1)) }
 {
     if fields.len() < 12 {
@@ -129,7 +129,7 @@ fn delete_of(unit: Unit, at: u64, fields: &[u8]) -> Result<(KeyRecord, usize), K
 }
 
 fn created(series: Series) -> KeyRecord
-    ensures { result ≡ created series }
+    ensures { result ≡ create_record series }
 {
     KeyRecord::Create {
         number: series.number,
@@ -151,7 +151,7 @@ fn living(series: Series) -> KeyRecord
 }
 
 /// The record that stands at a place, and how many bytes it takes.
-#[tactic(auto, unfolding(crate::specs::Reading::record_in))]
+#[tactic(auto, unfolding(crate::specs::Reading::key_record_in))]
 fn record_of(
     alloc: Global,
     unit: Unit,
@@ -160,7 +160,7 @@ fn record_of(
     bytes: &[u8],
 ) -> Result<(KeyRecord, usize), KeyFault>
     requires { at + length bytes.now < 2 ^ 64 }
-    ensures read { Gives (λ x. x) result (record_in unit live at bytes.now) }
+    ensures read { GivesRead (λ x. x) result (key_record_in unit live at bytes.now) }
     ensures len { IfOk result (λ x. (1 ≤ x.1) × (x.1 ≤ length bytes.now)) }
 {
     match bytes {
@@ -185,7 +185,7 @@ fn records_of(
     body: &[u8],
 ) -> Result<Vec<KeyRecord>, KeyFault>
     requires { 1 ≤ length body.now }
-    ensures { Gives (λ records. records.items) result (records_in unit live (drop 1 body.now)) }
+    ensures { GivesRead (λ records. records.items) result (key_records_in unit live (drop 1 body.now)) }
 {
     let mut records = Vec::new(alloc);
     let mut at = 1;
@@ -200,7 +200,7 @@ fn records_of(
 
 #[tactic(auto, unfolding(crate::specs::Reading::keys_in))]
 fn body_of(alloc: Global, body: &[u8], live: bool) -> Result<KeyBody, KeyFault>
-    ensures { Gives shown result (keys_in live body.now) }
+    ensures { GivesRead keys_shown result (keys_in live body.now) }
 {
     match body {
         [1, ..] => {
@@ -226,11 +226,11 @@ fn body_of(alloc: Global, body: &[u8], live: bool) -> Result<KeyBody, KeyFault>
 /// fields are whole, and the limits of each field in order.
 pub fn read_keys(alloc: Global, body: &[u8], live: bool) -> Result<KeyBody, KeyFault>
     // What is read is spelled so.
-    ensures found { IfOk result (λ keys. AreRecords keys.unit live keys.records.items × (body.now ≡ spelling keys.unit keys.records.items)) }
+    ensures found { IfOk result (λ keys. AreRecords keys.unit live keys.records.items × (body.now ≡ keys_spelling keys.unit keys.records.items)) }
     // What is spelled so is read, unless memory is wanting.
     ensures only { ReadsKeys live body.now result }
     // Which fault it is.
-    ensures exact { Gives shown result (keys_in live body.now) }
+    ensures exact { GivesRead keys_shown result (keys_in live body.now) }
 {
     body_of(alloc, body, live)
 }

@@ -2,7 +2,7 @@
 ghost use Rattle.std.specs.Prelude.{◌≡◌, ◌+◌, ◌++◌, ◌∷◌, ◌^◌, ◌<◌, ◌≤◌, length, vec_len, vec_capacity, OnOk, OnErr};
 ghost use Rattle.std.specs.Int.{w32, w64, to_be_bytes};
 ghost use Rattle.std.specs.List.{AllByRecursion};
-ghost use Rattle.gor_keys.specs.Spelling.{IsFloor, InLimits, floor_bytes, version, series, series_fields, record_spelling, spelling};
+ghost use Rattle.gor_keys.specs.Spelling.{IsFloorInUnit, KeyRecordInLimits, floor_bytes, version, series, series_fields, key_record_spelling, keys_spelling};
 
 use crate::record::KeyRecord;
 use gor_fields::{push_all, put_u32, put_u64};
@@ -11,7 +11,7 @@ use gor_name::Name;
 use std::alloc::AllocError;
 
 fn put_floor(unit: Unit, floor: u64, out: &mut Vec<u8>)
-    requires floor { IsFloor unit floor }
+    requires floor { IsFloorInUnit unit floor }
     requires room { vec_len out.old + 8 ≤ vec_capacity out.old }
     ensures items { out.new.items ≡ out.old.items ++ floor_bytes unit floor }
     ensures len { vec_len out.new ≤ vec_len out.old + 8 }
@@ -42,7 +42,7 @@ fn put_series(
     name: &Name,
     out: &mut Vec<u8>,
 ) -> Result<(), AllocError>
-    requires { IsFloor unit floor }
+    requires { IsFloorInUnit unit floor }
     ensures ok { OnOk result (out.new.items ≡ out.old.items ++ kind ∷ series_fields unit (series number slot floor name.now)) }
     ensures err { OnErr result (out.new.items ≡ out.old.items) }
 {
@@ -68,8 +68,8 @@ fn put_delete(number: u64, slot: u32, out: &mut Vec<u8>) -> Result<(), AllocErro
 }
 
 fn put_record(unit: Unit, entry: &KeyRecord, out: &mut Vec<u8>) -> Result<(), AllocError>
-    requires { InLimits unit entry.now }
-    ensures ok { OnOk result (out.new.items ≡ out.old.items ++ record_spelling unit entry.now) }
+    requires { KeyRecordInLimits unit entry.now }
+    ensures ok { OnOk result (out.new.items ≡ out.old.items ++ key_record_spelling unit entry.now) }
     ensures err { OnErr result (out.new.items ≡ out.old.items) }
 {
     match entry {
@@ -101,8 +101,8 @@ fn version(unit: Unit) -> u8
 /// Writes the body of these records, with floors in this unit, at the end of `out`, which stays as it was where memory is
 /// wanting.
 pub fn write_keys(unit: Unit, records: &[KeyRecord], out: &mut Vec<u8>) -> Result<(), AllocError>
-    requires { AllByRecursion (InLimits unit) records.now }
-    ensures ok { OnOk result (out.new.items ≡ out.old.items ++ spelling unit records.now) }
+    requires { AllByRecursion (KeyRecordInLimits unit) records.now }
+    ensures ok { OnOk result (out.new.items ≡ out.old.items ++ keys_spelling unit records.now) }
     ensures err { OnErr result (out.new.items ≡ out.old.items) }
 {
     let len = out.len();

@@ -5,7 +5,7 @@ use Rattle.gor_model.specs.Windows.{last_time_in}
 use Rattle.gor_model.specs.declared.unit.Unit.TheVariants.{Second}
 use Rattle.gor_model.specs.declared.wrong.Wrong.TheVariants.{Version, Kind, Short, Value}
 use Rattle.gor_model.specs.declared.wrong.Misread.{Misread}
-use Rattle.gor_model.specs.Fields.{number_in, is_number, is_window, wrong, ◌>>=◌, each_of}
+use Rattle.gor_model.specs.Fields.{field_in, is_number, is_window, wrong, ◌>>=◌, each_of}
 use Rattle.gor_log.specs.declared.record.LogRecord.{LogRecord}
 use Rattle.gor_log.specs.declared.record.LogRecord.TheVariants.{Put, Floor, Seal}
 use Rattle.gor_log.specs.declared.record.LogBatch.{LogBatch}
@@ -22,26 +22,26 @@ is_range first last = is_number first && nat_le first last && is_number last
 unfoldable pub put_in : ℕ → List ℕ → Result (LogRecord × ℕ) Misread
 put_in at fields =
     if nat_lt (length fields) 20 then wrong at Short
-    else if not (is_number (number_in w64 0 fields)) then wrong (at + 1) Value
-    else if not (is_time (number_in w32 8 fields)) then wrong (at + 9) Value
-    else Ok (Put (number_in w64 0 fields) (number_in w32 8 fields) (number_in w64 12 fields), 21)
+    else if not (is_number (field_in w64 0 fields)) then wrong (at + 1) Value
+    else if not (is_time (field_in w32 8 fields)) then wrong (at + 9) Value
+    else Ok (Put (field_in w64 0 fields) (field_in w32 8 fields) (field_in w64 12 fields), 21)
 
 unfoldable pub floor_in : ℕ → List ℕ → Result (LogRecord × ℕ) Misread
 floor_in at fields =
     if nat_lt (length fields) 4 then wrong at Short
-    else if not (is_window (number_in w32 0 fields)) then wrong (at + 1) Value
-    else Ok (Floor (number_in w32 0 fields), 5)
+    else if not (is_window (field_in w32 0 fields)) then wrong (at + 1) Value
+    else Ok (Floor (field_in w32 0 fields), 5)
 
 unfoldable pub seal_in : ℕ → List ℕ → Result (LogRecord × ℕ) Misread
 seal_in at fields =
     if nat_lt (length fields) 12 then wrong at Short
-    else if not (is_number (number_in w64 0 fields)) then wrong (at + 1) Value
-    else if not (is_window (number_in w32 8 fields)) then wrong (at + 9) Value
-    else Ok (Seal (number_in w64 0 fields) (number_in w32 8 fields), 13)
+    else if not (is_number (field_in w64 0 fields)) then wrong (at + 1) Value
+    else if not (is_window (field_in w32 8 fields)) then wrong (at + 9) Value
+    else Ok (Seal (field_in w64 0 fields) (field_in w32 8 fields), 13)
 
-unfoldable pub record_in : ℕ → List ℕ → Result (LogRecord × ℕ) Misread
-record_in at [] = wrong at Short
-record_in at (kind ∷ fields) =
+unfoldable pub log_record_in : ℕ → List ℕ → Result (LogRecord × ℕ) Misread
+log_record_in at [] = wrong at Short
+log_record_in at (kind ∷ fields) =
     if kind == 1 then put_in at fields
     else if kind == 2 then floor_in at fields
     else if kind == 3 then seal_in at fields
@@ -49,8 +49,8 @@ record_in at (kind ∷ fields) =
 
 -- ---- a batch
 
-abbrev pub records_in : List ℕ → Result (List LogRecord) Misread
-records_in bytes = each_of record_in 17 bytes
+abbrev pub log_records_in : List ℕ → Result (List LogRecord) Misread
+log_records_in bytes = each_of log_record_in 17 bytes
 
 abbrev pub batch : ℕ → ℕ → List LogRecord → Batch
 batch first last records = record { version = 1; first = first; last = last; records = records }
@@ -59,13 +59,13 @@ batch first last records = record { version = 1; first = first; last = last; rec
 unfoldable pub header_in : List ℕ → Result Batch Misread
 header_in bytes =
     if nat_lt (length bytes) 16 then wrong 0 Short
-    else if not (is_range (number_in w64 0 bytes) (number_in w64 8 bytes)) then wrong 1 Value
-    else (records_in (drop 16 bytes) >>= λ records. Ok (batch (number_in w64 0 bytes) (number_in w64 8 bytes) records))
+    else if not (is_range (field_in w64 0 bytes) (field_in w64 8 bytes)) then wrong 1 Value
+    else (log_records_in (drop 16 bytes) >>= λ records. Ok (batch (field_in w64 0 bytes) (field_in w64 8 bytes) records))
 
 -- the batch that a body spells, or its first fault
 unfoldable pub log_in : List ℕ → Result Batch Misread
 log_in [] = wrong 0 Version
 log_in (version ∷ rest) = if version == 1 then header_in rest else wrong 0 Version
 
-abbrev pub shown : LogBatch → Batch
-shown b = record { version = b.version; first = b.first; last = b.last; records = b.records.items }
+abbrev pub log_batch_shown : LogBatch → Batch
+log_batch_shown b = record { version = b.version; first = b.first; last = b.last; records = b.records.items }

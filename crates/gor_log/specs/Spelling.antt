@@ -26,10 +26,10 @@ pub record IsSeal (u w : ℕ) : Type 0 where
   pub uid : IsNumber u
   pub window : w ≤ last_window
 
-abbrev pub IsRecord : LogRecord → Type 0
-IsRecord (Put uid time word) = IsPut uid time word
-IsRecord (Floor window) = window ≤ last_window
-IsRecord (Seal uid window) = IsSeal uid window
+abbrev pub IsLogRecord : LogRecord → Type 0
+IsLogRecord (Put uid time word) = IsPut uid time word
+IsLogRecord (Floor window) = window ≤ last_window
+IsLogRecord (Seal uid window) = IsSeal uid window
 
 -- change numbers in order
 pub record IsRange (first last : ℕ) : Type 0 where
@@ -40,14 +40,14 @@ pub record IsRange (first last : ℕ) : Type 0 where
 pub record IsBatch (batch : Batch) : Type 0 where
   pub version : batch.version ≡ 1
   pub range : IsRange batch.first batch.last
-  pub records : AllByRecursion IsRecord batch.records
+  pub records : AllByRecursion IsLogRecord batch.records
 
 -- ---- spelling: numbers with the highest byte first
 
-abbrev pub record_spelling : LogRecord → List ℕ
-record_spelling (Put uid time word) = 1 ∷ (to_be_bytes w64 uid ++ (to_be_bytes w32 time ++ to_be_bytes w64 word))
-record_spelling (Floor window) = 2 ∷ to_be_bytes w32 window
-record_spelling (Seal uid window) = 3 ∷ (to_be_bytes w64 uid ++ to_be_bytes w32 window)
+abbrev pub log_record_spelling : LogRecord → List ℕ
+log_record_spelling (Put uid time word) = 1 ∷ (to_be_bytes w64 uid ++ (to_be_bytes w32 time ++ to_be_bytes w64 word))
+log_record_spelling (Floor window) = 2 ∷ to_be_bytes w32 window
+log_record_spelling (Seal uid window) = 3 ∷ (to_be_bytes w64 uid ++ to_be_bytes w32 window)
 
-abbrev pub spelling : Batch → List ℕ
-spelling batch = batch.version ∷ (to_be_bytes w64 batch.first ++ (to_be_bytes w64 batch.last ++ flat_map record_spelling batch.records))
+abbrev pub batch_spelling : Batch → List ℕ
+batch_spelling batch = batch.version ∷ (to_be_bytes w64 batch.first ++ (to_be_bytes w64 batch.last ++ flat_map log_record_spelling batch.records))

@@ -1,8 +1,8 @@
 //! A body of a log is read as one batch.
 ghost use Rattle.std.specs.Prelude.{◌≡◌, ◌+◌, ◌^◌, ◌<◌, ◌≤◌, length, drop, Ok, Err, IfOk};
-ghost use Rattle.gor_fields.specs.Readings.{Gives};
-ghost use Rattle.gor_log.specs.Spelling.{Batch, IsBatch, spelling};
-ghost use Rattle.gor_log.specs.Reading.{is_time, is_range, put_in, floor_in, seal_in, record_in, records_in, header_in, log_in, shown};
+ghost use Rattle.gor_fields.specs.Readings.{GivesRead};
+ghost use Rattle.gor_log.specs.Spelling.{Batch, IsBatch, batch_spelling};
+ghost use Rattle.gor_log.specs.Reading.{is_time, is_range, put_in, floor_in, seal_in, log_record_in, log_records_in, header_in, log_in, log_batch_shown};
 
 use crate::LogFault;
 use crate::record::{LogBatch, LogRecord};
@@ -25,7 +25,7 @@ fn is_range(first: u64, last: u64) -> bool
 #[tactic(auto, unfolding(crate::specs::Reading::put_in))]
 fn put_of(at: u64, fields: &[u8]) -> Result<(LogRecord, usize), LogFault>
     requires { at + length fields.now + 1 < 2 ^ 64 }
-    ensures read { Gives (λ x. x) result (put_in at fields.now) }
+    ensures read { GivesRead (λ x. x) result (put_in at fields.now) }
     ensures len { IfOk result (λ x. (1 ≤ x.1) × (x.1 ≤ length fields.now + 1)) }
 {
     if fields.len() < 20 {
@@ -46,7 +46,7 @@ fn put_of(at: u64, fields: &[u8]) -> Result<(LogRecord, usize), LogFault>
 #[tactic(auto, unfolding(crate::specs::Reading::floor_in))]
 fn floor_of(at: u64, fields: &[u8]) -> Result<(LogRecord, usize), LogFault>
     requires { at + length fields.now + 1 < 2 ^ 64 }
-    ensures read { Gives (λ x. x) result (floor_in at fields.now) }
+    ensures read { GivesRead (λ x. x) result (floor_in at fields.now) }
     ensures len { IfOk result (λ x. (1 ≤ x.1) × (x.1 ≤ length fields.now + 1)) }
 {
     if fields.len() < 4 {
@@ -62,7 +62,7 @@ fn floor_of(at: u64, fields: &[u8]) -> Result<(LogRecord, usize), LogFault>
 #[tactic(auto, unfolding(crate::specs::Reading::seal_in))]
 fn seal_of(at: u64, fields: &[u8]) -> Result<(LogRecord, usize), LogFault>
     requires { at + length fields.now + 1 < 2 ^ 64 }
-    ensures read { Gives (λ x. x) result (seal_in at fields.now) }
+    ensures read { GivesRead (λ x. x) result (seal_in at fields.now) }
     ensures len { IfOk result (λ x. (1 ≤ x.1) × (x.1 ≤ length fields.now + 1)) }
 {
     if fields.len() < 12 {
@@ -80,10 +80,10 @@ fn seal_of(at: u64, fields: &[u8]) -> Result<(LogRecord, usize), LogFault>
 }
 
 /// The record that stands at a place, and how many bytes it takes.
-#[tactic(auto, unfolding(crate::specs::Reading::record_in))]
+#[tactic(auto, unfolding(crate::specs::Reading::log_record_in))]
 fn record_of(at: u64, bytes: &[u8]) -> Result<(LogRecord, usize), LogFault>
     requires { at + length bytes.now < 2 ^ 64 }
-    ensures read { Gives (λ x. x) result (record_in at bytes.now) }
+    ensures read { GivesRead (λ x. x) result (log_record_in at bytes.now) }
     ensures len { IfOk result (λ x. (1 ≤ x.1) × (x.1 ≤ length bytes.now)) }
 {
     match bytes {
@@ -97,7 +97,7 @@ fn record_of(at: u64, bytes: &[u8]) -> Result<(LogRecord, usize), LogFault>
 
 fn records_of(alloc: Global, body: &[u8]) -> Result<Vec<LogRecord>, LogFault>
     requires { 17 ≤ length body.now }
-    ensures { Gives (λ records. records.items) result (records_in (drop 17 body.now)) }
+    ensures { GivesRead (λ records. records.items) result (log_records_in (drop 17 body.now)) }
 {
     let mut records = Vec::new(alloc);
     let mut at = 17;
@@ -112,7 +112,7 @@ fn records_of(alloc: Global, body: &[u8]) -> Result<Vec<LogRecord>, LogFault>
 
 #[tactic(auto, unfolding(crate::specs::Reading::log_in, crate::specs::Reading::header_in))]
 fn batch_of(alloc: Global, body: &[u8]) -> Result<LogBatch, LogFault>
-    ensures { Gives shown result (log_in body.now) }
+    ensures { GivesRead log_batch_shown result (log_in body.now) }
 {
     let [1, rest @ ..] = body else {
         return Err(fault(0, Wrong::Version));
@@ -139,11 +139,11 @@ fn batch_of(alloc: Global, body: &[u8]) -> Result<LogBatch, LogFault>
 /// of each field in order.
 pub fn read_log(alloc: Global, body: &[u8]) -> Result<LogBatch, LogFault>
     // What is read is spelled so.
-    ensures found { IfOk result (λ batch. IsBatch (shown batch) × (body.now ≡ spelling (shown batch))) }
+    ensures found { IfOk result (λ batch. IsBatch (log_batch_shown batch) × (body.now ≡ batch_spelling (log_batch_shown batch))) }
     // What is spelled so is read, unless memory is wanting.
-    ensures only { (batch : Batch) → IsBatch batch → body.now ≡ spelling batch → Gives shown result (Ok batch) }
+    ensures only { (batch : Batch) → IsBatch batch → body.now ≡ batch_spelling batch → GivesRead log_batch_shown result (Ok batch) }
     // Which fault it is.
-    ensures exact { Gives shown result (log_in body.now) }
+    ensures exact { GivesRead log_batch_shown result (log_in body.now) }
 {
     batch_of(alloc, body)
 }

@@ -2,8 +2,8 @@
 ghost use Rattle.std.specs.Prelude.{◌≡◌, ◌+◌, ◌≤◌, ◌++◌, ◌∷◌, vec_len, vec_capacity, OnOk, OnErr};
 ghost use Rattle.std.specs.List.{flat_map, AllByRecursion};
 ghost use Rattle.std.specs.Int.{w32, w64, to_be_bytes};
-ghost use Rattle.gor_log.specs.Spelling.{IsRecord, IsBatch, record_spelling, spelling};
-ghost use Rattle.gor_log.specs.Reading.{shown};
+ghost use Rattle.gor_log.specs.Spelling.{IsLogRecord, IsBatch, log_record_spelling, batch_spelling};
+ghost use Rattle.gor_log.specs.Reading.{log_batch_shown};
 
 use crate::record::{LogBatch, LogRecord};
 use gor_fields::{put_u32, put_u64};
@@ -28,9 +28,9 @@ fn put_seal(uid: u64, window: u32, out: &mut Vec<u8>)
 
 /// Adds a record, for which there is room.
 fn put_record(entry: LogRecord, out: &mut Vec<u8>)
-    requires limits { IsRecord entry }
+    requires limits { IsLogRecord entry }
     requires room { vec_len out.old + 21 ≤ vec_capacity out.old }
-    ensures { out.new.items ≡ out.old.items ++ record_spelling entry }
+    ensures { out.new.items ≡ out.old.items ++ log_record_spelling entry }
 {
     match entry {
         LogRecord::Put { uid, time, word } => {
@@ -62,8 +62,8 @@ fn put_header(version: u8, first: u64, last: u64, out: &mut Vec<u8>) -> Result<(
 
 /// Adds the records; where memory is wanting, nothing.
 fn put_records(records: &[LogRecord], out: &mut Vec<u8>) -> Result<(), AllocError>
-    requires { AllByRecursion IsRecord records.now }
-    ensures ok { OnOk result (out.new.items ≡ out.old.items ++ flat_map record_spelling records.now) }
+    requires { AllByRecursion IsLogRecord records.now }
+    ensures ok { OnOk result (out.new.items ≡ out.old.items ++ flat_map log_record_spelling records.now) }
     ensures err { OnErr result (out.new.items ≡ out.old.items) }
 {
     let len = out.len();
@@ -79,8 +79,8 @@ fn put_records(records: &[LogRecord], out: &mut Vec<u8>) -> Result<(), AllocErro
 
 /// Writes the body of a batch at the end of `out`, which stays as it was where memory is wanting.
 pub fn write_log(batch: &LogBatch, out: &mut Vec<u8>) -> Result<(), AllocError>
-    requires { IsBatch (shown batch.now) }
-    ensures ok { OnOk result (out.new.items ≡ out.old.items ++ spelling (shown batch.now)) }
+    requires { IsBatch (log_batch_shown batch.now) }
+    ensures ok { OnOk result (out.new.items ≡ out.old.items ++ batch_spelling (log_batch_shown batch.now)) }
     ensures err { OnErr result (out.new.items ≡ out.old.items) }
 {
     let start = out.len();

@@ -3,7 +3,7 @@ use Rattle.std.specs.Prelude.{◌≡◌, ℕ, List, [], ◌∷◌, length, Resul
 use Rattle.std.specs.Int.{w32, w64}
 use Rattle.gor_model.specs.declared.wrong.Wrong.TheVariants.{Version, Kind, Short, Extra, Value}
 use Rattle.gor_model.specs.declared.wrong.Misread.{Misread}
-use Rattle.gor_model.specs.Fields.{number_in, is_number, is_window, wrong}
+use Rattle.gor_model.specs.Fields.{field_in, is_number, is_window, wrong}
 use Rattle.gor_marks.specs.declared.mark.Mark.{Mark}
 use Rattle.gor_marks.specs.declared.mark.Mark.TheVariants.{Home, Sealed}
 use Rattle.gor_fields.specs.declared.field_fault.FieldFault.{FieldFault}
@@ -16,19 +16,19 @@ is_shards n = nat_le 1 n && nat_le n 16
 unfoldable pub home_in : List ℕ → Result Mark Misread
 home_in fields =
     if nat_lt (length fields) 8 then wrong 0 Short
-    else if not (is_shards (number_in w32 0 fields)) then wrong 2 Value
-    else if not (nat_lt (number_in w32 4 fields) (number_in w32 0 fields)) then wrong 6 Value
+    else if not (is_shards (field_in w32 0 fields)) then wrong 2 Value
+    else if not (nat_lt (field_in w32 4 fields) (field_in w32 0 fields)) then wrong 6 Value
     else if nat_lt 8 (length fields) then wrong 10 Extra
-    else Ok (Home (number_in w32 0 fields) (number_in w32 4 fields))
+    else Ok (Home (field_in w32 0 fields) (field_in w32 4 fields))
 
 unfoldable pub sealed_in : List ℕ → Result Mark Misread
 sealed_in fields =
     if nat_lt (length fields) 20 then wrong 0 Short
-    else if not (is_window (number_in w32 0 fields)) then wrong 2 Value
-    else if not (is_number (number_in w64 8 fields)) then wrong 10 Value
-    else if nat_lt (number_in w32 4 fields) (number_in w32 16 fields) then wrong 18 Value
+    else if not (is_window (field_in w32 0 fields)) then wrong 2 Value
+    else if not (is_number (field_in w64 8 fields)) then wrong 10 Value
+    else if nat_lt (field_in w32 4 fields) (field_in w32 16 fields) then wrong 18 Value
     else if nat_lt 20 (length fields) then wrong 22 Extra
-    else Ok (Sealed (number_in w32 0 fields) (number_in w32 4 fields) (number_in w64 8 fields) (number_in w32 16 fields))
+    else Ok (Sealed (field_in w32 0 fields) (field_in w32 4 fields) (field_in w64 8 fields) (field_in w32 16 fields))
 
 -- behind the version: a kind that may stand there, and its fields
 unfoldable pub kind_in : Bool → List ℕ → Result Mark Misread
@@ -46,6 +46,6 @@ abbrev pub Meets : FieldFault → Result Mark Misread → Type 0
 Meets (fault.Wrong at kind) read = read ≡ wrong at kind
 Meets fault.NoMemory read = ⊥
 
-abbrev pub Gives : Result Mark FieldFault → Result Mark Misread → Type 0
-Gives (Ok mark) read = read ≡ Ok mark
-Gives (Err f) read = Meets f read
+abbrev pub GivesMark : Result Mark FieldFault → Result Mark Misread → Type 0
+GivesMark (Ok mark) read = read ≡ Ok mark
+GivesMark (Err f) read = Meets f read

@@ -1,8 +1,8 @@
 //! A body of the marks is read as one mark.
 ghost use Rattle.std.specs.Prelude.{◌≡◌, Ok, IfOk, true, false};
 ghost use Rattle.gor_model.specs.Fields.{wrong};
-ghost use Rattle.gor_marks.specs.Spelling.{InLimits, is_home, spelling};
-ghost use Rattle.gor_marks.specs.Reading.{Gives, is_shards, home_in, sealed_in, kind_in, mark_in};
+ghost use Rattle.gor_marks.specs.Spelling.{MarkInLimits, is_home, mark_spelling};
+ghost use Rattle.gor_marks.specs.Reading.{GivesMark, is_shards, home_in, sealed_in, kind_in, mark_in};
 ghost use Rattle.gor_marks.specs.declared.mark.Mark.{Mark};
 
 use crate::MarkFault;
@@ -94,11 +94,11 @@ fn mark_of(first: bool, body: &[u8]) -> Result<Mark, Misread>
 /// order, then bytes after the last field. It takes no memory.
 pub fn read_mark(body: &[u8], first: bool) -> Result<Mark, MarkFault>
     // What is read is spelled so.
-    ensures found { IfOk result (λ mark. InLimits mark × (is_home mark ≡ first) × (body.now ≡ spelling mark)) }
+    ensures found { IfOk result (λ mark. MarkInLimits mark × (is_home mark ≡ first) × (body.now ≡ mark_spelling mark)) }
     // What is spelled so is read.
-    ensures only { (mark : Mark) → InLimits mark → is_home mark ≡ first → body.now ≡ spelling mark → result ≡ Ok mark }
+    ensures only { (mark : Mark) → MarkInLimits mark → is_home mark ≡ first → body.now ≡ mark_spelling mark → result ≡ Ok mark }
     // Which fault it is.
-    ensures exact { Gives result (mark_in first body.now) }
+    ensures exact { GivesMark result (mark_in first body.now) }
 {
     Ok(mark_of(first, body)?)
 }

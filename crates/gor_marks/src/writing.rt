@@ -1,7 +1,7 @@
 //! A mark is spelled as a body.
 ghost use Rattle.std.specs.Prelude.{◌≡◌, ◌++◌, ◌≤◌, length, drop, OnOk, OnErr};
 ghost use Rattle.std.specs.Int.{w32, w64, to_be_bytes};
-ghost use Rattle.gor_marks.specs.Spelling.{InLimits, spelling};
+ghost use Rattle.gor_marks.specs.Spelling.{MarkInLimits, mark_spelling};
 
 use crate::mark::Mark;
 use byteorder::{BigEndian, ByteOrder};
@@ -33,8 +33,8 @@ fn put_sealed(bytes: &mut [u8], window: u32, keys: u32, upto: u64, first_log: u3
 
 /// Writes the one spelling of a mark at the end of `out`, which stays as it was where memory is wanting.
 pub fn write_mark(mark: &Mark, out: &mut Vec<u8>) -> Result<(), AllocError>
-    requires { InLimits mark.now }
-    ensures ok { OnOk result (out.new.items ≡ out.old.items ++ spelling mark.now) }
+    requires { MarkInLimits mark.now }
+    ensures ok { OnOk result (out.new.items ≡ out.old.items ++ mark_spelling mark.now) }
     ensures err { OnErr result (out.new.items ≡ out.old.items) }
 {
     match *mark {

@@ -9,7 +9,7 @@ use Rattle.std.proofs.lemmas.List.{drop_at, take-append-drop, length-append, len
 use Rattle.std.proofs.lemmas.List.Concat.{flat_map-cons}
 use Rattle.std.proofs.lemmas.Nat.{be_bytes_4, be_bytes_8}
 use Rattle.gor_model.specs.declared.wrong.Misread.{Misread}
-use Rattle.gor_model.specs.Fields.{IsBytes, IsNumber, is_number, number_in, ◌>>=◌, Reader, each_within, each_of, with_front}
+use Rattle.gor_model.specs.Fields.{IsBytes, IsNumber, is_number, field_in, ◌>>=◌, Reader, each_within, each_of, with_front}
 
 -- ---- bytes
 
@@ -83,14 +83,14 @@ wide64 = record {
 
 -- the bytes from a place are those of the number there and the bytes after it
 pub number_parts : (w : Width) (limit : ℕ) → IsWide w limit → (at : ℕ) (bytes : List ℕ) → at + byte_len w ≤ length bytes → IsBytes bytes
-    → drop at bytes ≡ to_be_bytes w (number_in w at bytes) ++ drop (at + byte_len w) bytes
+    → drop at bytes ≡ to_be_bytes w (field_in w at bytes) ++ drop (at + byte_len w) bytes
 number_parts w limit wide at bytes long fits =
     let rest = drop at bytes in
     let len : length (take (byte_len w) rest) ≡ byte_len w = omega (arith, length-take (byte_len w) rest, length-drop at bytes) in
-    let front : to_be_bytes w (number_in w at bytes) ≡ take (byte_len w) rest = wide.back (take (byte_len w) rest) len (IsBytes-take (byte_len w) rest (IsBytes-drop at bytes fits)) in
+    let front : to_be_bytes w (field_in w at bytes) ≡ take (byte_len w) rest = wide.back (take (byte_len w) rest) len (IsBytes-take (byte_len w) rest (IsBytes-drop at bytes fits)) in
     rw (front, ← drop-drop (byte_len w) at bytes) (sym (take-append-drop (byte_len w) rest))
 
-pub number_below : (w : Width) (limit : ℕ) → IsWide w limit → (at : ℕ) (bytes : List ℕ) → IsBytes bytes → number_in w at bytes < limit
+pub number_below : (w : Width) (limit : ℕ) → IsWide w limit → (at : ℕ) (bytes : List ℕ) → IsBytes bytes → field_in w at bytes < limit
 number_below w limit wide at bytes fits = wide.below (take (byte_len w) (drop at bytes)) (IsBytes-take (byte_len w) (drop at bytes) (IsBytes-drop at bytes fits))
 
 -- ---- records one after another

@@ -12,10 +12,10 @@ use Rattle.gor_model.specs.Starts.{IsStart}
 use Rattle.gor_model.specs.Changes.{History, changes}
 use Rattle.gor_model.specs.PlainMap.{row_after, with_kept, slots_after}
 use Rattle.gor_model.specs.Answers.{Legal}
-use Rattle.gor_model.specs.Shares.{Entry, entry_of, DirectoryShare, JournalShare, DeviceShare, directory_share, journal_share, device_share, series_share, Object, Device, Directory, Journal, Series, share, OfDevice, OfDirectory, OfSlot, OfJournal, OfSeries, Begins, Frees, Nothing, sealed_row, series_touched}
+use Rattle.gor_model.specs.Shares.{DirectoryEntry, entry_of_row, DirectoryShare, JournalShare, DeviceShare, directory_share, journal_share, device_share, series_share, Object, Device, Directory, Journal, Series, share, OfDevice, OfDirectory, OfSlot, OfJournal, OfSeries, Begins, Frees, Nothing, sealed_row, series_touched}
 use Rattle.gor_model.specs.AnswersByShares.{done_by}
 use Rattle.gor_model.specs.SharesAfter.{journal_with, journal_taken, journal_stopped, directory_without, directory_raised, sealed_to, begun, device_taken, device_sealed, device_raised, device_stopped, device_done}
-use Rattle.gor_model.specs.Objects.{Has, number_of, object_at, Touches, share_of}
+use Rattle.gor_model.specs.Objects.{Has, number_of, object_at, TouchesObject, share_of}
 use Rattle.gor_model.proofs.AfterLaws.{journal_put_absent, journal_del, journal_floor, journal_seal, journal_take, journal_stop, series_seal_after, series_del_after, series_begun_after, directory_del_after, directory_floor_after, device_take_after, device_floor_after, device_seal_after, device_done_after, device_stop_after}
 use Rattle.gor_model.proofs.ShareLaws.{made}
 use Rattle.gor_model.proofs.AgreeLaws.{series_back, same_slot, same_directory, same_journal, same_device, entry_absent}
@@ -143,12 +143,12 @@ module _ (start : Start) (is : IsStart start) (h : History) (legal : Legal start
         ∙ ap (λ (z : ℕ × JournalShare). journal_with (change.Del key) (Frees z.0) z.1) (λ i. (r.3 i, journal_is journal buffers i)))
 
   -- what a delete touches, by the directory's entry
-  pub del_touched : (lane : ℕ) (slot : Option ℕ) (key : List ℕ) (r : Reply) (directory : DirectoryShare) → share_of start 1 h ≡ OfDirectory directory → (o : ℕ) → Touches start h (made lane slot (call.Del key) r) o
-      → Has (map (number_of start.slots) (series_touched (option_map (λ (e : Entry). e.slot) (directory.entry key)) ++ Directory ∷ Journal ∷ [])) o
-  unfolding Touches
+  pub del_touched : (lane : ℕ) (slot : Option ℕ) (key : List ℕ) (r : Reply) (directory : DirectoryShare) → share_of start 1 h ≡ OfDirectory directory → (o : ℕ) → TouchesObject start h (made lane slot (call.Del key) r) o
+      → Has (map (number_of start.slots) (series_touched (option_map (λ (e : DirectoryEntry). e.slot) (directory.entry key)) ++ Directory ∷ Journal ∷ [])) o
+  unfolding TouchesObject
   del_touched lane slot key r directory here o t = subst (λ (z : Option ℕ). Has (map (number_of start.slots) (series_touched z ++ Directory ∷ Journal ∷ [])) o)
-      (slot_by_entry (row_after start (changes h) key) ∙ ap (λ (d : DirectoryShare). option_map (λ (e : Entry). e.slot) (d.entry key)) (directory_is directory here)) t where
-        slot_by_entry : (row : Option Row) → option_map (λ (r : Row). r.slot) row ≡ option_map (λ (e : Entry). e.slot) (option_map entry_of row)
+      (slot_by_entry (row_after start (changes h) key) ∙ ap (λ (d : DirectoryShare). option_map (λ (e : DirectoryEntry). e.slot) (d.entry key)) (directory_is directory here)) t where
+        slot_by_entry : (row : Option Row) → option_map (λ (r : Row). r.slot) row ≡ option_map (λ (e : DirectoryEntry). e.slot) (option_map entry_of_row row)
         slot_by_entry None = refl
         slot_by_entry (Some r) = refl
 

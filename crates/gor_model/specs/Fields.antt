@@ -23,8 +23,8 @@ is_window w = nat_le w last_window
 -- ---- numbers
 
 -- the number that the bytes from a place spell, the highest first
-abbrev pub number_in : Width → ℕ → List ℕ → ℕ
-number_in w at bytes = from_be_bytes w (take (byte_len w) (drop at bytes))
+abbrev pub field_in : Width → ℕ → List ℕ → ℕ
+field_in w at bytes = from_be_bytes w (take (byte_len w) (drop at bytes))
 
 abbrev pub wrong : {X : Type 0} → ℕ → Wrong → Result X Misread
 wrong at kind = Err (record { at = at; kind = kind })

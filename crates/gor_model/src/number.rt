@@ -1,14 +1,14 @@
 //! Numbers in bytes, the highest byte first.
 ghost use Rattle.std.specs.Prelude.{◌≡◌, ◌+◌, ◌≤◌, length};
 ghost use Rattle.std.specs.Int.{w32, w64};
-ghost use Rattle.gor_model.specs.Fields.{number_in, is_number, is_window};
+ghost use Rattle.gor_model.specs.Fields.{field_in, is_number, is_window};
 
 use crate::windows::LAST_WINDOW;
 
 /// The number that four bytes from a place spell, the highest first.
 pub fn u32_in(bytes: &[u8], at: usize) -> u32
     requires { at + 4 ≤ length bytes.now }
-    ensures { result ≡ number_in w32 at bytes.now }
+    ensures { result ≡ field_in w32 at bytes.now }
 {
     let (_, rest) = bytes.split_at(at);
     u32::from_be_bytes([rest[0], rest[1], rest[2], rest[3]])
@@ -17,7 +17,7 @@ pub fn u32_in(bytes: &[u8], at: usize) -> u32
 /// The number that eight bytes from a place spell, the highest first.
 pub fn u64_in(bytes: &[u8], at: usize) -> u64
     requires { at + 8 ≤ length bytes.now }
-    ensures { result ≡ number_in w64 at bytes.now }
+    ensures { result ≡ field_in w64 at bytes.now }
 {
     let (_, rest) = bytes.split_at(at);
     u64::from_be_bytes([

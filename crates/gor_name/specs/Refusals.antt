@@ -17,8 +17,8 @@ pub record StopsAt (text : List ℕ) (at : ℕ) : Type 0 where
   pub byte : (slice_index text at < 33) ⊎ (slice_index text at ≡ 127)
 
 -- what a refusal says of the text; only what is a name needs memory
-abbrev pub Tells : List ℕ → NameFault → Type 0
-Tells text Empty = text ≡ []
-Tells text (Long bytes) = (bytes ≡ length text) × (255 < bytes)
-Tells text (Control at) = (length text ≤ 255) × StopsAt text at
-Tells text NoMemory = IsName text
+abbrev pub FaultTells : List ℕ → NameFault → Type 0
+FaultTells text Empty = text ≡ []
+FaultTells text (Long bytes) = (bytes ≡ length text) × (255 < bytes)
+FaultTells text (Control at) = (length text ≤ 255) × StopsAt text at
+FaultTells text NoMemory = IsName text

@@ -1,7 +1,7 @@
 //! Names of series and their keys.
 ghost use Rattle.std.specs.Prelude.{◌≡◌, ◌≤◌, ◌<◌, length, string_bytes, IfOk, IfErr, OnOk, IsOkUnless};
 ghost use Rattle.gor_model.specs.Names.{IsName, key_of, fnv1a, shard_of};
-ghost use Rattle.gor_name.specs.Refusals.{Tells, StopsAt};
+ghost use Rattle.gor_name.specs.Refusals.{FaultTells, StopsAt};
 ghost use Rattle.gor_name.specs.declared.name.NameFault.TheVariants.{NoMemory};
 
 use caseless::default_case_fold_str;
@@ -59,7 +59,7 @@ impl Name {
     /// The name that a text spells: 1 to 255 bytes, none of them below 33 or 127.
     pub fn read(alloc: Global, text: &str) -> Result<Name, NameFault>
         ensures name { IfOk result (λ name. (name ≡ text.now) × IsName text.now) }
-        ensures refused { IfErr result (Tells text.now) }
+        ensures refused { IfErr result (FaultTells text.now) }
         ensures allowed { IsName text.now → IsOkUnless result NoMemory }
     {
         check(text)?;
@@ -108,7 +108,7 @@ impl Name {
 
 fn check(text: &str) -> Result<(), NameFault>
     ensures name { OnOk result (IsName text.now) }
-    ensures refused { IfErr result (Tells text.now) }
+    ensures refused { IfErr result (FaultTells text.now) }
 {
     if text.is_empty() {
         return Err(NameFault::Empty);

@@ -5,7 +5,7 @@ use Rattle.std.specs.Option.{option_or}
 use Rattle.std.specs.Str.{bytes_eq}
 use Rattle.gor_model.specs.Starts.{IsStart}
 use Rattle.gor_model.specs.PlainMap.{unused_slots, grown_row}
-use Rattle.gor_model.specs.Shares.{entry_of as entry_of_row, device_share, directory_share, series_share, journal_share, OfDevice, OfDirectory, OfSlot, OfJournal}
+use Rattle.gor_model.specs.Shares.{entry_of_row, device_share, directory_share, series_share, journal_share, OfDevice, OfDirectory, OfSlot, OfJournal}
 use Rattle.gor_model.specs.AnswersByShares.{weight_by}
 use Rattle.gor_model.specs.Objects.{share_of}
 use Rattle.gor_hall.proofs.Passing.{same_some, none_some}
@@ -16,9 +16,9 @@ use Rattle.gor_plain.specs.declared.parts.Journal.{Journal}
 use Rattle.gor_plain.specs.declared.parts.Device.{Device}
 use Rattle.gor_plain.specs.declared.plain.Plain.{Plain}
 use Rattle.gor_plain.specs.declared.plain.Plain.TheVariants as plain
-use Rattle.gor_plain.specs.Plains.{entry_of, device_of, directory_of, series_of, journal_of, plain_stands}
+use Rattle.gor_plain.specs.Plains.{entry_of_named, device_of, directory_of, series_of, journal_shown, plain_stands}
 use Rattle.gor_plain.proofs.Putting.{key_a}
-use Rattle.gor_plain.specs.FirstValues.{letter_a, first_row, one_series, AreFirst}
+use Rattle.gor_plain.specs.FirstValues.{letter_a, row_of_letter_a, one_series, AreFirstValues}
 
 abbrev only : Named
 only = record { key = letter_a; name = letter_a; slot = 0; uid = 1 }
@@ -27,17 +27,17 @@ none_free : unused_slots one_series ≡ []
 unfolding unused_slots
 none_free = refl
 
-each_key : (b : Bool) → option_map entry_of (if b then Some only else None) ≡ option_map entry_of_row (option_map (grown_row [] []) (option_or (if b then Some first_row else None) None))
+each_key : (b : Bool) → option_map entry_of_named (if b then Some only else None) ≡ option_map entry_of_row (option_map (grown_row [] []) (option_or (if b then Some row_of_letter_a else None) None))
 each_key true = refl
 each_key false = refl
 
 pub directory_first : (d : Directory) → d.floor ≡ 0 → d.series.items ≡ only ∷ [] → d.free.items ≡ [] → directory_of d ≡ directory_share one_series []
 directory_first d floor series free = from ∙ (λ i. record { floor = 0; entry = λ q. each_key (bytes_eq q letter_a) i; free = sym none_free i }) where
-  from : directory_of d ≡ record { floor = 0; entry = λ q. option_map entry_of (if bytes_eq q letter_a then Some only else None); free = [] }
-  from = λ i. record { floor = floor i; entry = λ q. option_map entry_of (Rattle.std.specs.Prelude.find (λ (n : Named). bytes_eq q n.key) (series i)); free = free i }
+  from : directory_of d ≡ record { floor = 0; entry = λ q. option_map entry_of_named (if bytes_eq q letter_a then Some only else None); free = [] }
+  from = λ i. record { floor = floor i; entry = λ q. option_map entry_of_named (Rattle.std.specs.Prelude.find (λ (n : Named). bytes_eq q n.key) (series i)); free = free i }
 
 module _ (d : Device) (index : Directory) (c : Cell) (j : Journal) (device : device_of d ≡ device_share one_series []) (directory : directory_of index ≡ directory_share one_series [])
-    (cell : Some (series_of c) ≡ series_share one_series [] 0) (journal : journal_of j ≡ journal_share one_series []) (weight : j.weight ≡ 0) where
+    (cell : Some (series_of c) ≡ series_share one_series [] 0) (journal : journal_shown j ≡ journal_share one_series []) (weight : j.weight ≡ 0) where
   abbrev four : List Plain
   four = plain.Device d ∷ plain.Directory index ∷ plain.Series c ∷ plain.Journal j ∷ []
 
@@ -50,7 +50,7 @@ module _ (d : Device) (index : Directory) (c : Cell) (j : Journal) (device : dev
       (ap OfJournal (sym journal), weight ∙ sym (ap weight_by journal))
   each (suc (suc (suc (suc o)))) x e = absurd (none_some x e)
 
-  pub first : (values : List Plain) → values ≡ four → AreFirst values
+  pub first : (values : List Plain) → values ≡ four → AreFirstValues values
   first values is = (ap length is, λ o x e. each o x (ap (λ (l : List Plain). slice_get l o) (sym is) ∙ e))
 
 pub one_series_is_start : IsStart one_series

@@ -20,9 +20,9 @@ use Rattle.gor_model.specs.declared.event.Change.TheVariants as change
 use Rattle.gor_model.specs.Starts.{IsStart}
 use Rattle.gor_model.specs.Answers.{Legal, IsAnswered, MayPut, weight}
 use Rattle.gor_model.specs.Shares.{OfSlot, OfJournal, Buffered}
-use Rattle.gor_model.specs.SharesAfter.{pushed}
+use Rattle.gor_model.specs.SharesAfter.{point_pushed}
 use Rattle.gor_model.specs.AnswersByShares.{weight_by}
-use Rattle.gor_model.specs.Objects.{Has, Touches, share_of}
+use Rattle.gor_model.specs.Objects.{Has, TouchesObject, share_of}
 use Rattle.gor_model.proofs.PlainNames.{plain_key}
 use Rattle.gor_model.proofs.EventLaws.{row_share, put_event, put_answered, put_touched, put_series, put_journal}
 use Rattle.gor_rule.specs.declared.view.View.{View}
@@ -33,8 +33,8 @@ use Rattle.gor_plain.specs.declared.parts.Journal.{Journal}
 use Rattle.gor_plain.specs.declared.plain.Plain.TheVariants as plain
 use Rattle.gor_plain.specs.declared.puts.StoredPut.{StoredPut}
 use Rattle.gor_plain.specs.FirstValues.{letter_a}
-use Rattle.gor_plain.specs.Plains.{series_of, journal_of, plain_stands}
-use Rattle.gor_plain.specs.Puts.{IsAbove, HasGrown, Stands, stored_event}
+use Rattle.gor_plain.specs.Plains.{series_of, journal_shown, plain_stands}
+use Rattle.gor_plain.specs.Puts.{IsAbove, HasGrown, PlainStands, stored_event}
 
 pub if_some : {X : Type 0} (P : X → Type 0) (x : X) (o : Option X) → o ≡ Some x → IfSome o P → P x
 if_some P x o is holds = subst (λ z. IfSome z P) is holds
@@ -90,9 +90,9 @@ key_a = plain_key letter_a (record { low = omega arith; high = omega arith; lowe
 
 module _ (v : View) (s lane word : ℕ) (cell cell' : Cell) (log log' : Journal) (put : StoredPut) (grown : HasGrown lane s word cell log put cell' log')
     (sound : IsStart v.start) (legal : Legal v.start v.at) (low : s < v.start.slots) (held : v.held ≡ (v.start.slots + 2) ∷ (s + 2) ∷ [])
-    (series : Stands v (s + 2) (plain.Series cell)) (journal : Stands v (v.start.slots + 2) (plain.Journal log)) where
+    (series : PlainStands v (s + 2) (plain.Series cell)) (journal : PlainStands v (v.start.slots + 2) (plain.Journal log)) where
   abbrev e : Event
-  e = stored_event lane s put.time word (due_by (journal_of log))
+  e = stored_event lane s put.time word (due_by (journal_shown log))
 
   event_is : record { lane = put.lane; slot = Some put.slot; call = call.Put put.name put.key put.time put.word; reply = reply.Stored put.due } ≡ e
   event_is = ap (λ (p : StoredPut). record { lane = p.lane; slot = Some p.slot; call = call.Put p.name p.key p.time p.word; reply = reply.Stored p.due }) grown.is
@@ -103,35 +103,35 @@ module _ (v : View) (s lane word : ℕ) (cell cell' : Cell) (log log' : Journal)
   here : share_of v.start (s + 2) v.at ≡ row_share letter_a cell.row
   here = series ∙ ap (λ (k : List ℕ). row_share k cell.row) grown.can.key
 
-  stored : put_there_by (journal_of log) (record { key = letter_a; row = cell.row }) put.time ≡ reply.Stored (due_by (journal_of log))
-  stored = stored_by (journal_of log) (record { key = letter_a; row = cell.row }) put.time grown.can.runs grown.can.open_ grown.can.above
+  stored : put_there_by (journal_shown log) (record { key = letter_a; row = cell.row }) put.time ≡ reply.Stored (due_by (journal_shown log))
+  stored = stored_by (journal_shown log) (record { key = letter_a; row = cell.row }) put.time grown.can.runs grown.can.open_ grown.can.above
 
   answered : IsAnswered v.start v.at e
   answered = subst (λ (r : Reply). IsAnswered v.start v.at (put_event lane s letter_a letter_a put.time word r)) stored
-      (put_answered v.start sound v.at legal lane s letter_a letter_a put.time word cell.row (journal_of log) may low here journal.0)
+      (put_answered v.start sound v.at legal lane s letter_a letter_a put.time word cell.row (journal_shown log) may low here journal.0)
 
-  touched : (o : ℕ) → Touches v.start v.at e o → Has v.held o
+  touched : (o : ℕ) → TouchesObject v.start v.at e o → Has v.held o
   touched o t = subst (λ (z : List ℕ). Has z o) (sym held)
       (⊎_elim (λ (q : s + 2 ≡ o). inr (inl q)) (⊎_elim (λ (q : v.start.slots + 2 ≡ o). inl q) (λ none. absurd none))
-      (put_touched v.start sound v.at legal lane s letter_a letter_a put.time word cell.row (journal_of log) may low here journal.0 (reply.Stored (due_by (journal_of log))) o t))
+      (put_touched v.start sound v.at legal lane s letter_a letter_a put.time word cell.row (journal_shown log) may low here journal.0 (reply.Stored (due_by (journal_shown log))) o t))
 
   abbrev said : Event
   said = record { lane = put.lane; slot = Some put.slot; call = call.Put put.name put.key put.time put.word; reply = reply.Stored put.due }
 
-  pub may_mark : ((o : ℕ) → Touches v.start v.at said o → Has v.held o) × IsAnswered v.start v.at said
-  may_mark = subst (λ (x : Event). ((o : ℕ) → Touches v.start v.at x o → Has v.held o) × IsAnswered v.start v.at x) (sym event_is) (touched, answered)
+  pub may_mark : ((o : ℕ) → TouchesObject v.start v.at said o → Has v.held o) × IsAnswered v.start v.at said
+  may_mark = subst (λ (x : Event). ((o : ℕ) → TouchesObject v.start v.at x o → Has v.held o) × IsAnswered v.start v.at x) (sym event_is) (touched, answered)
 
   module _ (w : View) (n : ℕ) (m : HasMarked v said n w) where
     marked : HasMarked v e n w
     marked = subst (λ (x : Event). HasMarked v x n w) event_is m
 
-    pub series_after : Stands w (s + 2) (plain.Series cell')
+    pub series_after : PlainStands w (s + 2) (plain.Series cell')
     series_after = marked_stands plain_stands v w e n (s + 2) (plain.Series cell') marked (subst (λ (z : List ℕ). Has z (s + 2)) (sym held) (inr (inl refl)))
-        (put_series v.start sound v.at legal lane s letter_a letter_a put.time word cell.row (journal_of log) may low here journal.0 (due_by (journal_of log)) grown.can.open_
-        ∙ (ap (λ (k : List ℕ). row_share k (pushed (record { time = put.time; word = word }) cell.row)) (sym grown.can.key) ∙ ap (λ (c : Cell). OfSlot (Some (series_of c))) (sym grown.cell_is)))
+        (put_series v.start sound v.at legal lane s letter_a letter_a put.time word cell.row (journal_shown log) may low here journal.0 (due_by (journal_shown log)) grown.can.open_
+        ∙ (ap (λ (k : List ℕ). row_share k (point_pushed (record { time = put.time; word = word }) cell.row)) (sym grown.can.key) ∙ ap (λ (c : Cell). OfSlot (Some (series_of c))) (sym grown.cell_is)))
 
-    pub journal_after : Stands w (v.start.slots + 2) (plain.Journal log')
+    pub journal_after : PlainStands w (v.start.slots + 2) (plain.Journal log')
     journal_after = marked_stands plain_stands v w e n (v.start.slots + 2) (plain.Journal log') marked (subst (λ (z : List ℕ). Has z (v.start.slots + 2)) (sym held) (inl refl)) (
-      put_journal v.start sound v.at legal lane s letter_a letter_a put.time word cell.row (journal_of log) may low here journal.0 (due_by (journal_of log)) ∙ ap OfJournal (sym grown.log_is),
-      (let a = grown.weight_is in let b = journal.1 in let c : weight_by (journal_of log') ≡ 21 + weight_by (journal_of log) = ap weight_by grown.log_is ∙ sum_by-cons weight (change.Put letter_a letter_a put.time word) (map (λ (b : Buffered). b.change) (journal_of log).buffered) in omega arith),
+      put_journal v.start sound v.at legal lane s letter_a letter_a put.time word cell.row (journal_shown log) may low here journal.0 (due_by (journal_shown log)) ∙ ap OfJournal (sym grown.log_is),
+      (let a = grown.weight_is in let b = journal.1 in let c : weight_by (journal_shown log') ≡ 21 + weight_by (journal_shown log) = ap weight_by grown.log_is ∙ sum_by-cons weight (change.Put letter_a letter_a put.time word) (map (λ (b : Buffered). b.change) (journal_shown log).buffered) in omega arith),
     )

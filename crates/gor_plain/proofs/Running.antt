@@ -9,7 +9,7 @@ use Rattle.gor_hall.specs.Passes.{lane_of}
 use Rattle.gor_hall.proofs.Passing.{get_end, get_longer, get_last, none_some, same_some}
 use Rattle.gor_rule.specs.declared.view.View.{View}
 use Rattle.gor_plain.specs.declared.lanes.Lane.{Lane}
-use Rattle.gor_plain.specs.Lanes.{IsIdle, IsBack, pass_of, Each, Covers}
+use Rattle.gor_plain.specs.Lanes.{IsIdle, IsBackIdle, pass_of, Each, Covers}
 
 module _ {X : Type 0} where
   reverse_next : (x : X) (xs : List X) → reverse (x ∷ xs) ≡ reverse xs ++ x ∷ []
@@ -52,7 +52,7 @@ module _ {V : Type 0} (hall : Hall V) (passes : List Pass) (n : ℕ) (before aft
       let back = turned_back passes k (get_or before k d).pass (ap (λ (l : List Pass). slice_get l k) (sym seated) ∙ mapped pass_of before k (get_or before k d) there) in
       let q = first back.0 (get_or before k d).pass back.1 in (q.0, ap (λ (v : View). v.held) q.3)
 
-  module _ (same : length after ≡ length before) (back : (k : ℕ) (d : Lane) → k < length before → IsBack hall (get_or before k d).pass (get_or after k d).pass) (left : final ≡ reverse (map pass_of after)) where
+  module _ (same : length after ≡ length before) (back : (k : ℕ) (d : Lane) → k < length before → IsBackIdle hall (get_or before k d).pass (get_or after k d).pass) (left : final ≡ reverse (map pass_of after)) where
     pub idle_again : Each (IsIdle hall) final
     idle_again k p e =
         let t = turned_back (map pass_of after) k p (ap (λ (l : List Pass). slice_get l k) (sym left) ∙ e) in

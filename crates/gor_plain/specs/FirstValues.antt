@@ -10,12 +10,12 @@ use Rattle.gor_plain.specs.Plains.{plain_stands}
 abbrev pub letter_a : List ℕ
 letter_a = 97 ∷ []
 
-abbrev pub first_row : Row
-first_row = record { name = letter_a; slot = 0; uid = 1; floor = 0; points = [] }
+abbrev pub row_of_letter_a : Row
+row_of_letter_a = record { name = letter_a; slot = 0; uid = 1; floor = 0; points = [] }
 
 abbrev pub one_series : Start
-one_series = record { slots = 1; floor = 0; next = 2; rows = (letter_a, first_row) ∷ []; shards = 0; shard = 0; since = 0; faults = 0; fit = false }
+one_series = record { slots = 1; floor = 0; next = 2; rows = (letter_a, row_of_letter_a) ∷ []; shards = 0; shard = 0; since = 0; faults = 0; fit = false }
 
 -- four values, which stand for the shares of the empty history
-abbrev pub AreFirst : List Plain → Type 0
-AreFirst values = (length values ≡ 4) × AllStand plain_stands one_series values []
+abbrev pub AreFirstValues : List Plain → Type 0
+AreFirstValues values = (length values ≡ 4) × AllStand plain_stands one_series values []

@@ -21,8 +21,8 @@ module _ {V : Type 0} where
   IsIdle h p = IsPassOf h p × (held p ≡ [])
 
   -- the same pass came back
-  abbrev pub IsBack : Hall V → Pass → Pass → Type 0
-  IsBack h old new = IsIdle h new × (lane_of new ≡ lane_of old)
+  abbrev pub IsBackIdle : Hall V → Pass → Pass → Type 0
+  IsBackIdle h old new = IsIdle h new × (lane_of new ≡ lane_of old)
 
 abbrev pub pass_of : Lane → Pass
 pass_of lane = lane.pass

@@ -9,7 +9,7 @@ use Rattle.gor_model.specs.Changes.{History}
 use Rattle.gor_model.specs.Answers.{Legal}
 use Rattle.gor_model.specs.PlainMap.{last_of}
 use Rattle.gor_model.specs.Shares.{OfSeries}
-use Rattle.gor_model.specs.SharesAfter.{pushed, journal_with}
+use Rattle.gor_model.specs.SharesAfter.{point_pushed, journal_with}
 use Rattle.gor_model.specs.AnswersByShares.{due_by}
 use Rattle.gor_model.specs.Objects.{IsBeginning, share_of}
 use Rattle.gor_rule.specs.declared.view.View.{View}
@@ -20,7 +20,7 @@ use Rattle.gor_plain.specs.declared.parts.Cell.{Cell}
 use Rattle.gor_plain.specs.declared.parts.Journal.{Journal}
 use Rattle.gor_plain.specs.declared.plain.Plain.{Plain}
 use Rattle.gor_plain.specs.declared.puts.StoredPut.{StoredPut}
-use Rattle.gor_plain.specs.Plains.{journal_of, plain_stands}
+use Rattle.gor_plain.specs.Plains.{journal_shown, plain_stands}
 use Rattle.gor_plain.specs.FirstValues.{letter_a}
 
 -- the time is above that of the last point
@@ -40,18 +40,18 @@ pub record CanPut (cell : Cell) (log : Journal) (time : ℕ) : Type 0 where
 -- the put is stored at its time, and the values are those after it
 pub record HasGrown (lane slot word : ℕ) (cell : Cell) (log : Journal) (put : StoredPut) (cell' : Cell) (log' : Journal) : Type 0 where
   pub can : CanPut cell log put.time
-  pub is : put ≡ record { lane = lane; slot = slot; name = letter_a; key = letter_a; time = put.time; word = word; due = due_by (journal_of log) }
-  pub cell_is : cell' ≡ record { key = cell.key; row = pushed (record { time = put.time; word = word }) cell.row }
-  pub log_is : journal_of log' ≡ journal_with (change.Put letter_a letter_a put.time word) (OfSeries cell.row.uid) (journal_of log)
+  pub is : put ≡ record { lane = lane; slot = slot; name = letter_a; key = letter_a; time = put.time; word = word; due = due_by (journal_shown log) }
+  pub cell_is : cell' ≡ record { key = cell.key; row = point_pushed (record { time = put.time; word = word }) cell.row }
+  pub log_is : journal_shown log' ≡ journal_with (change.Put letter_a letter_a put.time word) (OfSeries cell.row.uid) (journal_shown log)
   pub weight_is : log'.weight ≡ log.weight + 21
 
 -- the journal's share and weight are as they were
 abbrev pub IsSameLog : Journal → Journal → Type 0
-IsSameLog old new = (journal_of new ≡ journal_of old) × (new.weight ≡ old.weight)
+IsSameLog old new = (journal_shown new ≡ journal_shown old) × (new.weight ≡ old.weight)
 
 -- the value stands for the object's share as the view has it
-abbrev pub Stands : View → ℕ → Plain → Type 0
-Stands v o x = plain_stands v.start o x (share_of v.start o v.at)
+abbrev pub PlainStands : View → ℕ → Plain → Type 0
+PlainStands v o x = plain_stands v.start o x (share_of v.start o v.at)
 
 -- two objects were taken, and nothing else is held
 pub record HoldsBoth (v : View) (a : ℕ) (x : Plain) (b : ℕ) (y : Plain) (w : View) : Type 0 where
@@ -60,8 +60,8 @@ pub record HoldsBoth (v : View) (a : ℕ) (x : Plain) (b : ℕ) (y : Plain) (w :
   pub mine : w.mine ≡ v.mine
   pub held : w.held ≡ b ∷ a ∷ []
   pub legal : Legal w.start w.at
-  pub first : Stands w a x
-  pub second : Stands w b y
+  pub first : PlainStands w a x
+  pub second : PlainStands w b y
 
 abbrev pub stored_event : ℕ → ℕ → ℕ → ℕ → Bool → Event
 stored_event lane slot time word due = record { lane = lane; slot = Some slot; call = call.Put letter_a letter_a time word; reply = reply.Stored due }

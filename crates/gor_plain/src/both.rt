@@ -1,9 +1,9 @@
 //! Two objects under their locks.
 ghost use Rattle.std.specs.Prelude.{◌≡◌, ◌<◌, [], ◌∷◌};
-ghost use Rattle.gor_hall.specs.Halls.{IsPassOf, objects_of};
+ghost use Rattle.gor_hall.specs.Halls.{IsPassOf, object_count};
 ghost use Rattle.gor_hall.specs.Calls.{StaysPass};
 ghost use Rattle.gor_hall.specs.Passes.{view, held, seen, made};
-ghost use Rattle.gor_plain.specs.Puts.{HoldsBoth, Stands};
+ghost use Rattle.gor_plain.specs.Puts.{HoldsBoth, PlainStands};
 
 use crate::plain::Plain;
 use gor_hall::{Hall, Pass};
@@ -18,7 +18,7 @@ pub fn take_both<R: Wait>(
     second: u32,
 ) -> (Plain, Plain)
     requires pass { IsPassOf hall.now pass.old × (held pass.old ≡ []) }
-    requires objects { (first < second) × (second < objects_of hall.now) }
+    requires objects { (first < second) × (second < object_count hall.now) }
     ensures pass { StaysPass hall.now 0 pass.old pass.new }
     ensures both { HoldsBoth (view pass.old) first result.0 second result.1 (view pass.new) }
 {
@@ -37,9 +37,9 @@ pub fn give_both(
     two: Plain,
 )
     requires pass { IsPassOf hall.now pass.old × (held pass.old ≡ second ∷ first ∷ []) }
-    requires objects { (first < second) × (second < objects_of hall.now) }
-    requires one { Stands (view pass.old) first one }
-    requires two { Stands (view pass.old) second two }
+    requires objects { (first < second) × (second < object_count hall.now) }
+    requires one { PlainStands (view pass.old) first one }
+    requires two { PlainStands (view pass.old) second two }
     ensures pass { StaysPass hall.now 0 pass.old pass.new }
     ensures gave { (held pass.new ≡ []) × (seen pass.new ≡ seen pass.old) × (made pass.new ≡ made pass.old) }
 {

@@ -1,8 +1,8 @@
 //! All lanes of a hall at work, each in a thread of its own.
 ghost use Rattle.std.specs.Prelude.{◌≡◌, ℕ, ◌<◌, ◌≤◌, [], All, IfOk, IfErr, map, reverse, vec_capacity, Some, length, vec_len, slice_get, slice_index_or};
-ghost use Rattle.gor_hall.specs.Halls.{IsFirstPass, start_of, lanes_of, objects_of};
+ghost use Rattle.gor_hall.specs.Halls.{IsFirstPass, start_of, lanes_of, object_count};
 ghost use Rattle.gor_plain.specs.declared.lanes.Lane.{Lane};
-ghost use Rattle.gor_plain.specs.Lanes.{IsIdle, IsBack, pass_of, HasEndedWell};
+ghost use Rattle.gor_plain.specs.Lanes.{IsIdle, IsBackIdle, pass_of, HasEndedWell};
 
 use crate::plain::Plain;
 use crate::puts::put;
@@ -37,13 +37,13 @@ pub struct Ended {
 impl Lane {
     ghost use Rattle.std.specs.Prelude.{◌<◌};
     ghost use Rattle.gor_hall.specs.Halls.{start_of};
-    ghost use Rattle.gor_plain.specs.Lanes.{IsIdle, IsBack};
+    ghost use Rattle.gor_plain.specs.Lanes.{IsIdle, IsBackIdle};
 
     /// Puts so many words, unless one is not stored, and looks.
     pub fn run<R: Wait>(&mut self, rt: &R, alloc: Global, hall: &Hall<Plain>, slot: u32, count: u64)
         requires pass { IsIdle hall.now self.old.pass }
         requires slot { slot < (start_of hall.now).slots }
-        ensures { IsBack hall.now self.old.pass self.new.pass }
+        ensures { IsBackIdle hall.now self.old.pass self.new.pass }
     {
         if !put_all(rt, alloc, hall, &mut self.pass, slot, count) {
             self.all = false;
@@ -62,7 +62,7 @@ fn put_all<R: Wait>(
 ) -> bool
     requires pass { IsIdle hall.now pass.old }
     requires slot { slot < (start_of hall.now).slots }
-    ensures { IsBack hall.now pass.old pass.new }
+    ensures { IsBackIdle hall.now pass.old pass.new }
 {
     for word in 0..count {
         if pass.left() == 0 {
@@ -86,7 +86,7 @@ pub fn run_in_place<R: Threads + Wait + Sync>(
 )
     requires passes { All (λ lane. IsIdle hall.now lane.pass) lanes.old }
     requires slot { slot < (start_of hall.now).slots }
-    ensures back { (i : ℕ) (d : Lane) → i < length lanes.old → IsBack hall.now (slice_index_or lanes.old i d).pass (slice_index_or lanes.new i d).pass }
+    ensures back { (i : ℕ) (d : Lane) → i < length lanes.old → IsBackIdle hall.now (slice_index_or lanes.old i d).pass (slice_index_or lanes.new i d).pass }
     ensures length { length lanes.new ≡ length lanes.old }
 {
     thread::for_each_mut(
@@ -95,7 +95,7 @@ pub fn run_in_place<R: Threads + Wait + Sync>(
         16,
         &|_, lane| -> ()
             requires { IsIdle hall.now lane.old.pass × (slot < (start_of hall.now).slots) }
-            ensures { IsBack hall.entry.now lane.old.pass lane.new.pass }
+            ensures { IsBackIdle hall.entry.now lane.old.pass lane.new.pass }
         { lane.run(rt, alloc, hall, slot, count) },
     );
 }
@@ -148,7 +148,7 @@ pub fn run_and_close<R: Threads + Wait + Sync>(
     requires slot { slot < (start_of opened.hall).slots }
     requires lanes { vec_len opened.passes ≡ lanes_of opened.hall }
     requires passes { (k : ℕ) (p : Pass) → slice_get opened.passes.items k ≡ Some p → IsFirstPass opened.hall k p }
-    ensures len { IfOk result (λ e. vec_len e.values ≡ objects_of opened.hall) }
+    ensures len { IfOk result (λ e. vec_len e.values ≡ object_count opened.hall) }
     ensures history { IfOk result (λ e. HasEndedWell (start_of opened.hall) (lanes_of opened.hall) e.values.items) }
     ensures back { IfErr result (λ o. o ≡ opened) }
 {
@@ -177,7 +177,7 @@ fn run_and_look<R: Threads + Wait + Sync>(
 )
     requires passes { All (λ lane. IsIdle hall.now lane.pass) lanes.old }
     requires slot { slot < (start_of hall.now).slots }
-    ensures back { (i : ℕ) (d : Lane) → i < length lanes.old → IsBack hall.now (slice_index_or lanes.old i d).pass (slice_index_or lanes.new i d).pass }
+    ensures back { (i : ℕ) (d : Lane) → i < length lanes.old → IsBackIdle hall.now (slice_index_or lanes.old i d).pass (slice_index_or lanes.new i d).pass }
     ensures length { length lanes.new ≡ length lanes.old }
 {
     run_in_place(rt, alloc, hall, lanes, slot, count);

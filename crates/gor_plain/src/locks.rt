@@ -1,9 +1,9 @@
 //! What a pass takes in rising order, and what it is refused.
 ghost use Rattle.std.specs.Prelude.{◌≡◌, ◌+◌, ◌<◌, [], ◌∷◌, true, false, ◌++◌};
 ghost use Rattle.gor_model.specs.declared.start.Move.TheVariants.{Took, Gave};
-ghost use Rattle.gor_hall.specs.Halls.{start_of, objects_of};
+ghost use Rattle.gor_hall.specs.Halls.{start_of, object_count};
 ghost use Rattle.gor_hall.specs.Passes.{moves, refused};
-ghost use Rattle.gor_plain.specs.Lanes.{IsIdle, IsBack, taken_and_given};
+ghost use Rattle.gor_plain.specs.Lanes.{IsIdle, IsBackIdle, taken_and_given};
 
 use crate::plain::Plain;
 use gor_hall::{Hall, Pass};
@@ -14,7 +14,7 @@ use std::sync::Wait;
 pub fn take_in_rising_order<R: Wait>(rt: &R, hall: &Hall<Plain>, pass: &mut Pass) -> bool
     requires pass { IsIdle hall.now pass.old }
     requires slot { 0 < (start_of hall.now).slots }
-    ensures pass { IsBack hall.now pass.old pass.new }
+    ensures pass { IsBackIdle hall.now pass.old pass.new }
     ensures moves { moves pass.new ≡ taken_and_given (start_of hall.now).slots ++ moves pass.old }
 {
     let last = hall.objects() - 1;
@@ -36,8 +36,8 @@ pub fn take_in_rising_order<R: Wait>(rt: &R, hall: &Hall<Plain>, pass: &mut Pass
 /// Tries to take an object, gives it back, and tells whether it was free.
 pub fn try_and_give(hall: &Hall<Plain>, pass: &mut Pass, object: u32) -> bool
     requires pass { IsIdle hall.now pass.old }
-    requires object { object < objects_of hall.now }
-    ensures pass { IsBack hall.now pass.old pass.new }
+    requires object { object < object_count hall.now }
+    ensures pass { IsBackIdle hall.now pass.old pass.new }
     ensures free { result ≡ true → (refused pass.new ≡ refused pass.old) × (moves pass.new ≡ Gave object ∷ Took object ∷ moves pass.old) }
     ensures held { result ≡ false → (refused pass.new ≡ object ∷ refused pass.old) × (moves pass.new ≡ moves pass.old) }
 {
@@ -60,9 +60,9 @@ pub fn try_while_held<R: Wait>(
 ) -> (bool, bool)
     requires holder { IsIdle hall.now holder.old }
     requires other { IsIdle hall.now other.old }
-    requires object { object < objects_of hall.now }
-    ensures holder { IsBack hall.now holder.old holder.new }
-    ensures other { IsBack hall.now other.old other.new }
+    requires object { object < object_count hall.now }
+    ensures holder { IsBackIdle hall.now holder.old holder.new }
+    ensures other { IsBackIdle hall.now other.old other.new }
 {
     let value = hall.take(rt, holder, object);
     let before = try_and_give(hall, other, object);

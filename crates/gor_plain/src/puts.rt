@@ -3,14 +3,14 @@ ghost use Rattle.std.specs.Prelude.{◌≡◌, ◌+◌, ◌<◌, ◌≤◌, ◌^
 ghost use Rattle.gor_model.specs.declared.event.Call.TheVariants as call;
 ghost use Rattle.gor_model.specs.declared.event.Reply.TheVariants as reply;
 ghost use Rattle.gor_model.specs.PlainMap.{last_of};
-ghost use Rattle.gor_hall.specs.Halls.{IsPassOf, start_of, objects_of};
+ghost use Rattle.gor_hall.specs.Halls.{IsPassOf, start_of, object_count};
 ghost use Rattle.gor_hall.specs.Passes.{view, held, at, left_of_pass, lane_of};
 ghost use Rattle.gor_model.specs.Answers.{Legal};
 ghost use Rattle.gor_plain.specs.declared.plain.Plain.TheVariants as plain;
 ghost use Rattle.gor_plain.specs.FirstValues.{letter_a};
 ghost use Rattle.gor_model.specs.AnswersByShares.{weight_by};
-ghost use Rattle.gor_plain.specs.Plains.{plain_stands, journal_of};
-ghost use Rattle.gor_plain.specs.Puts.{IsAbove, CanPut, HasGrown, IsSameLog, HoldsBoth, Stands, HasPut};
+ghost use Rattle.gor_plain.specs.Plains.{plain_stands, journal_shown};
+ghost use Rattle.gor_plain.specs.Puts.{IsAbove, CanPut, HasGrown, IsSameLog, HoldsBoth, PlainStands, HasPut};
 
 use crate::both::{give_both, take_both};
 use crate::parts::{Aside, Cell, Journal, Waiting};
@@ -90,7 +90,7 @@ fn grow(
     cell: &mut Cell,
     log: &mut Journal,
 ) -> Result<Option<StoredPut>, AllocError>
-    requires { log.old.weight ≡ weight_by (journal_of log.old) }
+    requires { log.old.weight ≡ weight_by (journal_shown log.old) }
     ensures put { IfOk result (λ r. IfSome r (λ p. HasGrown lane slot word cell.old log.old p cell.new log.new)) }
     ensures none { IfOk result (λ r. IfNone r ((cell.new ≡ cell.old) × IsSameLog log.old log.new)) }
     ensures err { OnErr result ((cell.new ≡ cell.old) × IsSameLog log.old log.new) }
@@ -135,8 +135,8 @@ fn put_held(
     requires pass { IsPassOf hall.now pass.old × (0 < left_of_pass pass.old) × (held pass.old ≡ ((start_of hall.now).slots + 2) ∷ (slot + 2) ∷ []) }
     requires slot { slot < (start_of hall.now).slots }
     requires legal { Legal (view pass.old).start (at pass.old) }
-    requires series { Stands (view pass.old) (slot + 2) (plain.Series cell) }
-    requires journal { Stands (view pass.old) ((start_of hall.now).slots + 2) (plain.Journal log) }
+    requires series { PlainStands (view pass.old) (slot + 2) (plain.Series cell) }
+    requires journal { PlainStands (view pass.old) ((start_of hall.now).slots + 2) (plain.Journal log) }
     ensures pass { IsPassOf hall.now pass.new × (held pass.new ≡ []) × (lane_of pass.new ≡ lane_of pass.old) }
     ensures put { IfOk result (λ r. IfSome r (λ n. HasPut pass.old slot word n pass.new)) }
 {

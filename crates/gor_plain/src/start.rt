@@ -1,7 +1,7 @@
 //! A start with one slot and one series.
 ghost use Rattle.std.specs.Prelude.{◌≡◌, [], ◌∷◌, IfOk, Some};
-ghost use Rattle.gor_plain.specs.FirstValues.{one_series, AreFirst};
-ghost use Rattle.gor_plain.specs.Plains.{device_of, directory_of, series_of, journal_of};
+ghost use Rattle.gor_plain.specs.FirstValues.{one_series, AreFirstValues};
+ghost use Rattle.gor_plain.specs.Plains.{device_of, directory_of, series_of, journal_shown};
 ghost use Rattle.gor_model.specs.Shares.{device_share, directory_share, series_share, journal_share};
 
 use crate::parts::{Cell, Device, Directory, Journal, Named};
@@ -42,7 +42,7 @@ fn first_device(alloc: Global) -> Device
 }
 
 fn first_journal(alloc: Global) -> Journal
-    ensures share { journal_of result ≡ journal_share one_series [] }
+    ensures share { journal_shown result ≡ journal_share one_series [] }
     ensures weight { result.weight ≡ 0 }
 {
     Journal {
@@ -88,7 +88,7 @@ fn first_cell(alloc: Global) -> Result<Cell, AllocError>
 
 /// The values of the four objects, in order, each of which stands for its share of the empty history from `OneSeries`.
 pub fn first_values(alloc: Global) -> Result<Vec<Plain>, AllocError>
-    ensures { IfOk result (λ values. AreFirst values.items) }
+    ensures { IfOk result (λ values. AreFirstValues values.items) }
 {
     let directory = first_directory(alloc)?;
     let cell = first_cell(alloc)?;

@@ -11,7 +11,7 @@ ghost use Rattle.gor_steps.specs.declared.tries.TryFault.TheVariants as tried;
 ghost use Rattle.gor_steps.specs.Dels.{del_reply};
 ghost use Rattle.gor_steps.specs.Moves.{AddsMoves, PutsApart, ReadsApart};
 ghost use Rattle.gor_steps.specs.Pauses.{PausesIfPoints, PausesIfMade};
-ghost use Rattle.gor_steps.specs.Points.{IsReady, IsBack, Makes, MakesNone, get_reply, GetRefused};
+ghost use Rattle.gor_steps.specs.Points.{IsReady, IsBack, MakesOne, MakesNone, get_reply, GetRefused};
 ghost use Rattle.gor_steps.specs.Puts.{BeginsOrStops, PutRefused, put_reply};
 ghost use Rattle.gor_steps.specs.Tries.{TryRefused};
 
@@ -43,7 +43,7 @@ pub fn get<D: Disk, P: Pause, R: Wait>(
 ) -> Result<GetReply, GetFault>
     requires pass { IsReady shard.now pass.old }
     ensures pass { IsBack shard.now pass.old pass.new }
-    ensures event { IfOk result (λ r. (from ≤ to) × Makes pass.old r.number (call.Get (key_of name.now) from to) (get_reply r.answer) pass.new) }
+    ensures event { IfOk result (λ r. (from ≤ to) × MakesOne pass.old r.number (call.Get (key_of name.now) from to) (get_reply r.answer) pass.new) }
     ensures refused { IfErr result (GetRefused pass.old (key_of name.now) from to pass.new) }
     ensures paused { IfOk result (λ r. PausesIfPoints (P.called pause.now (lane_of pass.old) place) pass.old pass.new r.number r.answer) }
     ensures failed { OnErr result (PausesIfMade (P.called pause.now (lane_of pass.old) place) pass.old pass.new) }
@@ -68,7 +68,7 @@ pub fn try_get<D: Disk>(
 ) -> Result<GetReply, TryFault>
     requires pass { IsReady shard.now pass.old }
     ensures pass { IsBack shard.now pass.old pass.new }
-    ensures event { IfOk result (λ r. (from ≤ to) × Makes pass.old r.number (call.Get (key_of name.now) from to) (get_reply r.answer) pass.new) }
+    ensures event { IfOk result (λ r. (from ≤ to) × MakesOne pass.old r.number (call.Get (key_of name.now) from to) (get_reply r.answer) pass.new) }
     ensures refused { IfErr result (TryRefused pass.old (key_of name.now) from to pass.new) }
     ensures range { to < from → result ≡ Err (tried.Range from to) }
     ensures moves { AddsMoves pass.old pass.new (ReadsApart (start_of shard.now).slots) }
@@ -88,7 +88,7 @@ pub fn del<D: Disk, R: Wait>(
 ) -> Result<DelReply, DelFault>
     requires pass { IsReady shard.now pass.old }
     ensures pass { IsBack shard.now pass.old pass.new }
-    ensures event { IfOk result (λ r. Makes pass.old r.number (call.Del (key_of name.now)) (del_reply r.answer) pass.new) }
+    ensures event { IfOk result (λ r. MakesOne pass.old r.number (call.Del (key_of name.now)) (del_reply r.answer) pass.new) }
     ensures none { OnErr result (MakesNone pass.old pass.new) }
 {
     gor_steps::del(rt, shard, pass, name)
@@ -112,7 +112,7 @@ pub fn put<D: Disk, R: Wait>(
 ) -> Result<PutReply, PutFault>
     requires pass { IsReady shard.now pass.old }
     ensures pass { IsBack shard.now pass.old pass.new }
-    ensures event { IfOk result (λ r. (time ≤ greatest_time) × Makes pass.old r.number (call.Put name.now (key_of name.now) time word) (put_reply r.answer) pass.new) }
+    ensures event { IfOk result (λ r. (time ≤ greatest_time) × MakesOne pass.old r.number (call.Put name.now (key_of name.now) time word) (put_reply r.answer) pass.new) }
     ensures refused { IfErr result (PutRefused pass.old time pass.new) }
     ensures late { greatest_time < time → result ≡ Err (Time time) }
     ensures moves { IfOk result (λ r. AddsMoves pass.old pass.new (PutsApart (start_of shard.now).slots (BeginsOrStops (key_of name.now) pass.new r.answer))) }

@@ -14,7 +14,7 @@ use Rattle.gor_image.specs.Grammars.{and_then, rows_at}
 use Rattle.gor_image.specs.Images.{in_file, read_blocks}
 use Rattle.gor_recover.specs.Openings.{IsMet}
 use Rattle.gor_recover.specs.Gathering.{each_with_row, each_with_rows}
-use Rattle.gor_recover.specs.RowReads.{IsRow, AreRows}
+use Rattle.gor_recover.specs.RowReads.{IsBlockRow, AreBlockRows}
 use Rattle.gor_recover.specs.StoreReads.{HasRows, HasBlocks}
 
 abbrev pub with_before : List BlockRow → Result (List BlockRow) ImageFault → Result (List BlockRow) ImageFault
@@ -23,7 +23,7 @@ with_before rows read = and_then read (λ more. Ok (rows ++ more))
 -- what was gathered, and what is left to be read
 pub record BlocksSoFar (tells : Bool) (seen : Contents) (whole rest : List ℕ) (old new : List Gathered) : Type 0 where
   pub rows : List BlockRow
-  pub limits : AreRows rows
+  pub limits : AreBlockRows rows
   pub added : new ≡ each_with_rows old rows
   pub left : IsTrue tells → read_blocks seen whole ≡ with_before rows (read_blocks seen rest)
 
@@ -41,7 +41,7 @@ pub one_more : (tells : Bool) (seen now : Contents) (whole rest : List ℕ) (w :
     → BlocksSoFar tells seen whole (w ∷ rest) old mid → HasRows tells now w mid new → BlocksSoFar tells seen whole rest old new
 one_more tells seen now whole rest w old mid new same so_far has = record {
   rows = so_far.rows ++ has.rows;
-  limits = all_joined IsRow so_far.rows has.rows so_far.limits has.limits;
+  limits = all_joined IsBlockRow so_far.rows has.rows so_far.limits has.limits;
   added = has.added ∙ (ap (λ s. each_with_rows s has.rows) so_far.added ∙ rows_both old so_far.rows has.rows);
   left = λ t. so_far.left t ∙ (ap (λ r. with_before so_far.rows (and_then r (λ rows. and_then (read_blocks seen rest) (λ more. Ok (rows ++ more))))) (ap (λ bytes. in_file (Block w) (rows_at w bytes)) (sym (same t)) ∙ has.read t) ∙ by (read_blocks seen rest));
 } where

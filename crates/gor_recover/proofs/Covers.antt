@@ -3,7 +3,7 @@ use Rattle.std.proofs.Common.{◌≡◌, ℕ, zero, suc, ◌+◌, ◌<◌, ◌�
 use Rattle.std.specs.Prelude.{nat_le, ◌&&◌, ◌||◌}
 use Rattle.std.specs.List.{AllByRecursion, list_any}
 use Rattle.gor_recover.specs.declared.ranges.Range.{Range}
-use Rattle.gor_image.specs.Records.{Batch}
+use Rattle.gor_image.specs.Records.{BatchInLog}
 use Rattle.gor_image.specs.Recovery.{is_within}
 use Rattle.gor_image.specs.Holding.{BatchesRise}
 use Rattle.gor_recover.specs.Ranges.{range_of, has_number, RangesRise}
@@ -78,10 +78,10 @@ decided_end number (suc i) (x ∷ xs) le = decided_end number i xs (omega arith)
 
 -- ---- ranges of batches
 
-pub any_range : (number : ℕ) (batches : List Batch) → list_any (is_within number) batches ≡ list_any (has_number number) (map range_of batches)
+pub any_range : (number : ℕ) (batches : List BatchInLog) → list_any (is_within number) batches ≡ list_any (has_number number) (map range_of batches)
 any_range number [] = refl
 any_range number (b ∷ batches) = ap (λ x. (nat_le b.first number && nat_le number b.last) || x) (any_range number batches)
 
-pub ranges_rise : (n : ℕ) (batches : List Batch) → BatchesRise n batches → RangesRise n (map range_of batches)
+pub ranges_rise : (n : ℕ) (batches : List BatchInLog) → BatchesRise n batches → RangesRise n (map range_of batches)
 ranges_rise n [] rise = tt
 ranges_rise n (b ∷ batches) rise = (rise.0, rise.1, ranges_rise b.last batches rise.2)

@@ -12,7 +12,7 @@ use Rattle.gor_recover.specs.declared.recovered.OpenFault.{OpenFault}
 use Rattle.gor_recover.specs.declared.recovered.RecoveredRow.{RecoveredRow}
 use Rattle.gor_recover.specs.declared.recovered.OpenFault.TheVariants as refused
 use Rattle.gor_image.specs.Records.{Files}
-use Rattle.gor_image.specs.Recovery.{seal_end, log_records, points_of}
+use Rattle.gor_image.specs.Recovery.{seal_end, records_of_batches, points_of_series}
 use Rattle.gor_image.specs.Grammars.{and_then}
 use Rattle.gor_image.specs.Images.{found_of, found_rise, rows_rise}
 use Rattle.gor_recover.specs.Openings.{IsMet}
@@ -72,9 +72,9 @@ pub filled_is : (files : Files) (named : NamedRow) (row : RecoveredRow) (g : Gat
     → row.name ≡ named.name → row.slot ≡ named.slot → row.uid ≡ named.uid → row.floor ≡ max named.floor g.end → row.points ≡ kept (max named.floor g.end) g.points → IsFilled files named row
 filled_is files named row g own gathered fine name slot uid floor points = record {
   rise = ap (λ u. found_rise None (found_of files u)) (sym own) ∙ (gathered.rise ∙ ap rise_of fine);
-  is = let floors : row.floor ≡ greatest named.floor (filter_map (seal_end named.uid) (log_records files.batches)) =
-      floor ∙ (ap (max named.floor) (gathered.end ∙ ap (λ u. greatest 0 (filter_map (seal_end u) (log_records files.batches))) own) ∙ sym (greatest_from named.floor (filter_map (seal_end named.uid) (log_records files.batches)))) in
-      let all : row.points ≡ kept (greatest named.floor (filter_map (seal_end named.uid) (log_records files.batches))) (points_of files.base files.blocks (log_records files.batches) named.uid) =
-      points ∙ (ap (λ f. kept f g.points) (sym floor ∙ floors) ∙ ap (kept (greatest named.floor (filter_map (seal_end named.uid) (log_records files.batches)))) (gathered.points ∙ ap (points_of files.base files.blocks (log_records files.batches)) own)) in
+  is = let floors : row.floor ≡ greatest named.floor (filter_map (seal_end named.uid) (records_of_batches files.batches)) =
+      floor ∙ (ap (max named.floor) (gathered.end ∙ ap (λ u. greatest 0 (filter_map (seal_end u) (records_of_batches files.batches))) own) ∙ sym (greatest_from named.floor (filter_map (seal_end named.uid) (records_of_batches files.batches)))) in
+      let all : row.points ≡ kept (greatest named.floor (filter_map (seal_end named.uid) (records_of_batches files.batches))) (points_of_series files.base files.blocks (records_of_batches files.batches) named.uid) =
+      points ∙ (ap (λ f. kept f g.points) (sym floor ∙ floors) ∙ ap (kept (greatest named.floor (filter_map (seal_end named.uid) (records_of_batches files.batches)))) (gathered.points ∙ ap (points_of_series files.base files.blocks (records_of_batches files.batches)) own)) in
       cc;
 }

@@ -16,14 +16,14 @@ use Rattle.gor_recover.specs.declared.gather.Gathered.{Gathered}
 use Rattle.gor_recover.specs.declared.records.PlacedKey.{PlacedKey}
 use Rattle.gor_recover.specs.declared.recovered.OpenFault.{OpenFault}
 use Rattle.gor_recover.specs.declared.gathering.GatheredFiles.{GatheredFiles}
-use Rattle.gor_image.specs.Records.{Placed, Batch, BlockRow, Files}
+use Rattle.gor_image.specs.Records.{Placed, BatchInLog, BlockRow, Files}
 use Rattle.gor_image.specs.Recovery.{base_end}
 use Rattle.gor_image.specs.Grammars.{and_then, rows_at}
 use Rattle.gor_image.specs.Images.{KeysRead, in_file, read_gated, read_walk, read_keys, read_batch, read_blocks, read_logs, read_files, current, base_of, live_windows, remaining_logs, or_zero}
 use Rattle.gor_recover.specs.Openings.{IsMet}
-use Rattle.gor_recover.specs.Gathering.{IsBegun, IsGathered, HasSeries, each_with_rows, each_with_batches}
+use Rattle.gor_recover.specs.Gathering.{HasGatheredNothing, IsGathered, SeriesIsThere, each_with_rows, each_with_batches}
 use Rattle.gor_recover.specs.Parts.{key_shown}
-use Rattle.gor_recover.specs.KeyReads.{HasKeys, keys_from, AreKeysAt, NumbersRise}
+use Rattle.gor_recover.specs.KeyReads.{HasKeyRecords, keys_from, AreKeysAt, NumbersRise}
 use Rattle.gor_recover.specs.LogReads.{HasLogs, LogsAre, logs_up, top_among}
 use Rattle.gor_recover.specs.StoreReads.{IsBasedOn, HasBlocks, live_from}
 use Rattle.gor_recover.specs.Gathers.{HasGathered}
@@ -38,12 +38,12 @@ blocks_same a b same (w ∷ ws) =
     ap (λ bytes. and_then (in_file (Block w) (rows_at w bytes)) (λ rows. and_then (read_blocks a ws) (λ more. Ok (rows ++ more)))) (same (Block w))
     ∙ ap (λ r. and_then (in_file (Block w) (rows_at w (b (Block w)))) (λ rows. and_then r (λ more. Ok (rows ++ more)))) (blocks_same a b same ws)
 
-pub logs_same : (a b : Contents) → ((f : FileId) → a f ≡ b f) → (logs : List ℕ) (batches : List Batch) → read_logs a logs batches ≡ read_logs b logs batches
+pub logs_same : (a b : Contents) → ((f : FileId) → a f ≡ b f) → (logs : List ℕ) (batches : List BatchInLog) → read_logs a logs batches ≡ read_logs b logs batches
 logs_same a b same [] batches = refl
 logs_same a b same (log ∷ logs) batches =
     ap (λ bytes. and_then (in_file (Log log) (read_walk (read_batch log) batches (gates bytes))) (λ more. read_logs a logs more)) (same (Log log))
     ∙ by (read_gated b (read_batch log) (Log log) batches) (logs_same a b same logs) where
-      by : (r : Result (List Batch) ImageFault) → ((more : List Batch) → read_logs a logs more ≡ read_logs b logs more) → and_then r (λ more. read_logs a logs more) ≡ and_then r (λ more. read_logs b logs more)
+      by : (r : Result (List BatchInLog) ImageFault) → ((more : List BatchInLog) → read_logs a logs more ≡ read_logs b logs more) → and_then r (λ more. read_logs a logs more) ≡ and_then r (λ more. read_logs b logs more)
       by (Ok more) rest = rest more
       by (Err f) rest = refl
 
@@ -77,7 +77,7 @@ module _ (marks : List Mark) (base : Based) (based : IsBasedOn marks base) where
   unfolding list_of
   keys_stop seen fault met = subst (λ r. IsMet r fault) (sym (files_by seen)) (met_next (list_of seen) (rest_of seen) fault met)
 
-  pub blocks_stop : (seen mid : Contents) → ((f : FileId) → mid f ≡ seen f) → (entries : List (Placed _)) → HasKeys seen base.current (nat_lt 0 base.current) base.upto entries → (fault : OpenFault)
+  pub blocks_stop : (seen mid : Contents) → ((f : FileId) → mid f ≡ seen f) → (entries : List (Placed _)) → HasKeyRecords seen base.current (nat_lt 0 base.current) base.upto entries → (fault : OpenFault)
       → IsMet (read_blocks mid (live_from (unwrap_or base.window 0) marks)) fault → IsMet (read_files seen marks) fault
   unfolding rest_of list_of
   blocks_stop seen mid same entries has fault met =
@@ -88,7 +88,7 @@ module _ (marks : List Mark) (base : Based) (based : IsBasedOn marks base) where
   blocks_at : (seen mid : Contents) → ((f : FileId) → mid f ≡ seen f) → (rows : List BlockRow) → read_blocks mid (live_from (unwrap_or base.window 0) marks) ≡ Ok rows → read_blocks seen (live_windows marks) ≡ Ok rows
   blocks_at seen mid same rows is = ap (read_blocks seen) windows_are ∙ (sym (blocks_same mid seen same (live_from (unwrap_or base.window 0) marks)) ∙ is)
 
-  pub logs_stop : (seen mid later : Contents) → ((f : FileId) → mid f ≡ seen f) → ((f : FileId) → later f ≡ seen f) → (entries : List (Placed _)) → HasKeys seen base.current (nat_lt 0 base.current) base.upto entries
+  pub logs_stop : (seen mid later : Contents) → ((f : FileId) → mid f ≡ seen f) → ((f : FileId) → later f ≡ seen f) → (entries : List (Placed _)) → HasKeyRecords seen base.current (nat_lt 0 base.current) base.upto entries
       → (rows : List BlockRow) → read_blocks mid (live_from (unwrap_or base.window 0) marks) ≡ Ok rows → (fault : OpenFault) → IsMet (read_logs later (logs_up base.first_log base.current) []) fault → IsMet (read_files seen marks) fault
   unfolding rest_of list_of
   logs_stop seen mid later same after entries has rows blocks fault met =
@@ -102,8 +102,8 @@ module _ (marks : List Mark) (base : Based) (based : IsBasedOn marks base) where
   floor_of (Some w) le = inr (w, le, refl)
 
   pub store_is : (tells : Bool) (seen mid later : Contents) → (IsTrue tells → (f : FileId) → mid f ≡ seen f) → (IsTrue tells → (f : FileId) → later f ≡ seen f)
-      → (keys : List PlacedKey) → (IsTrue tells → HasKeys seen base.current (nat_lt 0 base.current) base.upto (map key_shown keys)) → AreKeysAt (map key_shown keys) → NumbersRise base.upto (map key_shown keys)
-      → (begun gathered series : List Gathered) → AllByRecursion IsBegun begun → AllByRecursion (λ k. HasSeries begun k.it) keys
+      → (keys : List PlacedKey) → (IsTrue tells → HasKeyRecords seen base.current (nat_lt 0 base.current) base.upto (map key_shown keys)) → AreKeysAt (map key_shown keys) → NumbersRise base.upto (map key_shown keys)
+      → (begun gathered series : List Gathered) → AllByRecursion HasGatheredNothing begun → AllByRecursion (λ k. SeriesIsThere begun k.it) keys
       → HasBlocks tells mid (live_from (unwrap_or base.window 0) marks) begun gathered → (low : ℕ) → low ≡ base_end base.window → (store : GatheredFiles) → store.keys.items ≡ keys → store.series ≡ series
       → HasLogs tells later (logs_up base.first_log base.current) base.window low gathered series store.logs → HasGathered tells seen marks store
   unfolding rest_of list_of
@@ -121,8 +121,8 @@ module _ (marks : List Mark) (base : Based) (based : IsBasedOn marks base) where
       parts = logs.limits;
       rise = logs.rise;
       gathered = subst (AllByRecursion (IsGathered files)) (sym series_are) (all_gathered files begun none);
-      has = subst (λ l. AllByRecursion (λ k. HasSeries store.series k.it) l) (sym keys_same) (subst (λ s. AllByRecursion (λ k. HasSeries s k.it) keys) (sym series_are)
-          (all_weaker (λ (k : PlacedKey). HasSeries begun k.it) (λ (k : PlacedKey). HasSeries (each_with_batches (base_of marks).window (each_with_rows begun blocks.rows) logs.batches) k.it) keys
+      has = subst (λ l. AllByRecursion (λ k. SeriesIsThere store.series k.it) l) (sym keys_same) (subst (λ s. AllByRecursion (λ k. SeriesIsThere s k.it) keys) (sym series_are)
+          (all_weaker (λ (k : PlacedKey). SeriesIsThere begun k.it) (λ (k : PlacedKey). SeriesIsThere (each_with_batches (base_of marks).window (each_with_rows begun blocks.rows) logs.batches) k.it) keys
           (λ k h. still_there (base_of marks).window blocks.rows logs.batches begun k.it h) there));
       logs_are = subst (λ n. LogsAre n logs.batches store.logs) (floor ∙ ap base_end based.window) logs.logs_are;
     };

@@ -7,8 +7,8 @@ use Rattle.std.proofs.lemmas.List.Elements.{filter_map-append}
 use Rattle.gor_model.specs.PlainMap.{greatest, last_of}
 use Rattle.gor_model.proofs.Lists.{get_last}
 use Rattle.gor_log.specs.declared.record.LogRecord.{LogRecord}
-use Rattle.gor_image.specs.Records.{Placed, Batch}
-use Rattle.gor_image.specs.Recovery.{log_records, floor_end}
+use Rattle.gor_image.specs.Records.{Placed, BatchInLog}
+use Rattle.gor_image.specs.Recovery.{records_of_batches, floor_end}
 use Rattle.gor_image.specs.Images.{put_window, greatest_of}
 use Rattle.gor_recover.specs.LogsRead.{raised_top, top_by, top_with, floor_with, last_from}
 use Rattle.gor_image.proofs.Filled.{greatest_append}
@@ -36,12 +36,12 @@ floors_in f (r ∷ rs) = floors_in (floor_with f r) rs ∙ by (floor_end r.it) w
   by None = let e : max f 0 ≡ f = omega arith in ap (λ m. greatest m (filter_map floor_end (map (λ r. r.it) rs))) e
   by (Some e) = greatest_max f e (filter_map floor_end (map (λ r. r.it) rs))
 
-pub floors : (f : ℕ) (batches : List Batch) → fold (λ f b. fold floor_with f b.records) f batches ≡ greatest f (filter_map floor_end (log_records batches))
+pub floors : (f : ℕ) (batches : List BatchInLog) → fold (λ f b. fold floor_with f b.records) f batches ≡ greatest f (filter_map floor_end (records_of_batches batches))
 floors f [] = refl
 floors f (b ∷ batches) = floors (fold floor_with f b.records) batches
-    ∙ (ap (λ m. greatest m (filter_map floor_end (log_records batches))) (floors_in f b.records)
-    ∙ (greatest_onto f (filter_map floor_end (map (λ r. r.it) b.records)) (filter_map floor_end (log_records batches))
-    ∙ ap (greatest f) (sym (filter_map-append floor_end (map (λ r. r.it) b.records) (log_records batches)))))
+    ∙ (ap (λ m. greatest m (filter_map floor_end (records_of_batches batches))) (floors_in f b.records)
+    ∙ (greatest_onto f (filter_map floor_end (map (λ r. r.it) b.records)) (filter_map floor_end (records_of_batches batches))
+    ∙ ap (greatest f) (sym (filter_map-append floor_end (map (λ r. r.it) b.records) (records_of_batches batches)))))
 
 -- ---- tops
 
@@ -58,14 +58,14 @@ tops_in done (r ∷ rs) = by (put_window r.it) (tops_in done rs) (λ w. tops_in 
   by None same more = same
   by (Some w) same more = ap (λ t. fold top_with t rs) (top_more done w) ∙ (more w ∙ ap greatest_of (append_assoc done (w ∷ []) (filter_map put_window (map (λ r. r.it) rs))))
 
-tops_from : (done : List ℕ) (batches : List Batch) → fold (λ top b. fold top_with top b.records) (greatest_of done) batches ≡ greatest_of (done ++ filter_map put_window (log_records batches))
+tops_from : (done : List ℕ) (batches : List BatchInLog) → fold (λ top b. fold top_with top b.records) (greatest_of done) batches ≡ greatest_of (done ++ filter_map put_window (records_of_batches batches))
 tops_from done [] = ap greatest_of (sym (append-nil done))
 tops_from done (b ∷ batches) = ap (λ t. fold (λ top b. fold top_with top b.records) t batches) (tops_in done b.records)
     ∙ (tops_from (done ++ filter_map put_window (map (λ r. r.it) b.records)) batches
-    ∙ (ap greatest_of (append_assoc done (filter_map put_window (map (λ r. r.it) b.records)) (filter_map put_window (log_records batches)))
-    ∙ ap (λ l. greatest_of (done ++ l)) (sym (filter_map-append put_window (map (λ r. r.it) b.records) (log_records batches)))))
+    ∙ (ap greatest_of (append_assoc done (filter_map put_window (map (λ r. r.it) b.records)) (filter_map put_window (records_of_batches batches)))
+    ∙ ap (λ l. greatest_of (done ++ l)) (sym (filter_map-append put_window (map (λ r. r.it) b.records) (records_of_batches batches)))))
 
-pub tops : (batches : List Batch) → fold (λ top b. fold top_with top b.records) None batches ≡ greatest_of (filter_map put_window (log_records batches))
+pub tops : (batches : List BatchInLog) → fold (λ top b. fold top_with top b.records) None batches ≡ greatest_of (filter_map put_window (records_of_batches batches))
 tops batches = tops_from [] batches
 
 -- ---- the last number
@@ -77,8 +77,8 @@ last_map f (x ∷ xs) = ap (λ o. Some (unwrap_or o (f x))) (last_map f xs) ∙ 
   by None = refl
   by (Some y) = refl
 
-pub last_is : {A : Type 0} (f : A → Batch) (n : ℕ) (xs : List A) (x : A) → Some x ≡ slice_get xs (length xs - 1) → (f x).last ≡ last_from n (map f xs)
-last_is f n xs x is = sym (ap (λ o. unwrap_or (option_map (λ (b : Batch). b.last) o) n) (last_map f xs ∙ ap (option_map f) (sym (get_last xs) ∙ sym is)))
+pub last_is : {A : Type 0} (f : A → BatchInLog) (n : ℕ) (xs : List A) (x : A) → Some x ≡ slice_get xs (length xs - 1) → (f x).last ≡ last_from n (map f xs)
+last_is f n xs x is = sym (ap (λ o. unwrap_or (option_map (λ (b : BatchInLog). b.last) o) n) (last_map f xs ∙ ap (option_map f) (sym (get_last xs) ∙ sym is)))
 
 -- ---- a number more
 

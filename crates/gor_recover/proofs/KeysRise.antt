@@ -8,14 +8,14 @@ use Rattle.gor_image.proofs.ReadBack.{after_ok}
 use Rattle.gor_keys.specs.declared.record.KeyRecord.{KeyRecord}
 use Rattle.gor_keys.specs.declared.record.KeyRecord.TheVariants.{Create, Delete, Live}
 use Rattle.gor_image.specs.Records.{Placed}
-use Rattle.gor_image.specs.Recovery.{number_in, is_above}
+use Rattle.gor_image.specs.Recovery.{change_number_in, is_above}
 use Rattle.gor_image.specs.Grammars.{keys_at}
 use Rattle.gor_image.specs.Holding.{RiseAbove}
 use Rattle.gor_image.specs.Images.{KeysRead, key_after, keys_after, read_keys, read_bodies}
 use Rattle.gor_recover.specs.KeyReads.{keys_from, AreListed, NumbersRise}
 
 abbrev numbers : List (Placed KeyRecord) → List ℕ
-numbers entries = filter_map (λ r. number_in r.it) entries
+numbers entries = filter_map (λ r. change_number_in r.it) entries
 
 -- what rises above the number behind records rises with theirs above the number before them
 abbrev Carries : ℕ → ℕ → List ℕ → Type 0
@@ -44,7 +44,7 @@ each st t (r ∷ rs) is =
     λ more rise. subst (RiseAbove st.number) (joined more) (one st a.0 r.at r.it a.1 (numbers rs ++ more) (b more rise))
   where
     joined : (more : List ℕ) → numbers (record { at = r.at; it = r.it } ∷ []) ++ (numbers rs ++ more) ≡ numbers (r ∷ rs) ++ more
-    joined more = sym (append_assoc (numbers (record { at = r.at; it = r.it } ∷ [])) (numbers rs) more) ∙ ap (λ l. l ++ more) (sym (filter_map-append (λ (x : Placed KeyRecord). number_in x.it) (record { at = r.at; it = r.it } ∷ []) rs))
+    joined more = sym (append_assoc (numbers (record { at = r.at; it = r.it } ∷ [])) (numbers rs) more) ∙ ap (λ l. l ++ more) (sym (filter_map-append (λ (x : Placed KeyRecord). change_number_in x.it) (record { at = r.at; it = r.it } ∷ []) rs))
 
 -- bodies
 pub rise_on : (sealed : Bool) (st t : KeysRead) (bodies : List (ℕ × List ℕ)) → read_bodies (read_keys sealed) st bodies ≡ Ok t
@@ -70,7 +70,7 @@ rise_on sealed st t (body ∷ bodies) is =
     behind all front new more e = ap (λ l. l ++ more) e ∙ append_assoc front new more
 
     joined : (a b : List (Placed KeyRecord)) (more : List ℕ) → numbers a ++ (numbers b ++ more) ≡ numbers (a ++ b) ++ more
-    joined a b more = sym (append_assoc (numbers a) (numbers b) more) ∙ ap (λ l. l ++ more) (sym (filter_map-append (λ (x : Placed KeyRecord). number_in x.it) a b))
+    joined a b more = sym (append_assoc (numbers a) (numbers b) more) ∙ ap (λ l. l ++ more) (sym (filter_map-append (λ (x : Placed KeyRecord). change_number_in x.it) a b))
 
 pub listed_rise : (sealed : Bool) (upto : ℕ) (bodies : List (ℕ × List ℕ)) (entries : List (Placed KeyRecord)) → AreListed sealed upto bodies entries → NumbersRise upto entries
 listed_rise sealed upto bodies entries are =

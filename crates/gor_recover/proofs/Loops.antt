@@ -8,7 +8,7 @@ use Rattle.gor_keys.specs.declared.record.KeyRecord.{KeyRecord}
 use Rattle.gor_keys.specs.declared.record.KeyRecord.TheVariants.{Create, Delete, Live}
 use Rattle.gor_recover.specs.declared.records.PlacedKey.{PlacedKey}
 use Rattle.gor_recover.specs.declared.gather.Gathered.{Gathered}
-use Rattle.gor_recover.specs.Gathering.{HasSeries}
+use Rattle.gor_recover.specs.Gathering.{SeriesIsThere}
 use Rattle.gor_recover.specs.Placing.{BeginsMore}
 
 pub fold_item : {A S B : Type 0} (f : S → B → S) (h : A → B) (s t : S) (xs : List A) (i : ℕ) (d : A) → i < length xs → d ≡ get_or xs i d → t ≡ f s (h d) → fold f t (map h (drop (i + 1) xs)) ≡ fold f s (map h (drop i xs))
@@ -17,13 +17,13 @@ fold_item f h s t xs i d low is step = ap (λ u. fold f u (map h (drop (i + 1) x
 pub all_item : {A : Type 0} (P : A → Type 0) (xs : List A) (i : ℕ) (d : A) → i < length xs → d ≡ get_or xs i d → AllByRecursion P (take i xs) → P d → AllByRecursion P (take (i + 1) xs)
 all_item P xs i d low is all here = subst (AllByRecursion P) (sym (take_more xs i d low ∙ ap (λ x. take i xs ++ x ∷ []) (sym is))) (all_push P (take i xs) d all here)
 
-pub still_has : (old new : List Gathered) (k : KeyRecord) → BeginsMore old new → HasSeries old k → HasSeries new k
+pub still_has : (old new : List Gathered) (k : KeyRecord) → BeginsMore old new → SeriesIsThere old k → SeriesIsThere new k
 still_has old new (Create number slot floor name) more has = more.kept number has
 still_has old new (Live uid slot floor name) more has = more.kept uid has
 still_has old new (Delete number slot) more has = tt
 
-pub all_still : (old new : List Gathered) (keys : List PlacedKey) → BeginsMore old new → AllByRecursion (λ k. HasSeries old k.it) keys → AllByRecursion (λ k. HasSeries new k.it) keys
-all_still old new keys more has = all_weaker (λ (k : PlacedKey). HasSeries old k.it) (λ (k : PlacedKey). HasSeries new k.it) keys (λ k h. still_has old new k.it more h) has
+pub all_still : (old new : List Gathered) (keys : List PlacedKey) → BeginsMore old new → AllByRecursion (λ k. SeriesIsThere old k.it) keys → AllByRecursion (λ k. SeriesIsThere new k.it) keys
+all_still old new keys more has = all_weaker (λ (k : PlacedKey). SeriesIsThere old k.it) (λ (k : PlacedKey). SeriesIsThere new k.it) keys (λ k h. still_has old new k.it more h) has
 
 pub drop_at : {A : Type 0} (xs : List A) (i : ℕ) (d : A) → i < length xs → drop i xs ≡ get_or xs i d ∷ drop (i + 1) xs
 drop_at xs i d low =

@@ -8,10 +8,10 @@ use Rattle.gor_model.specs.PlainMap.{last_of}
 use Rattle.gor_model.proofs.Lists.{last_push}
 use Rattle.gor_marks.specs.declared.mark.Mark.{Mark}
 use Rattle.gor_marks.specs.declared.mark.Mark.TheVariants.{Home, Sealed}
-use Rattle.gor_marks.specs.Spelling.{InLimits, is_home}
+use Rattle.gor_marks.specs.Spelling.{MarkInLimits, is_home}
 use Rattle.gor_image.specs.Recovery.{is_above}
 use Rattle.gor_image.specs.Images.{sealed_window, sealed_upto, sealed_first_log, or_zero, current, base_of, first_log_of, mark_after, is_none}
-use Rattle.gor_image.specs.MarkLists.{MayFollow, AllFollow}
+use Rattle.gor_image.specs.MarkLists.{MarkMayFollow, AllFollow}
 use Rattle.gor_recover.specs.MarkReads.{AreFromHome, Carried}
 
 -- the last of what the marks give
@@ -37,16 +37,16 @@ follows marks at w k u f is = by (is_above (base_of marks).window w) refl (nat_e
   by true p true q false r true s = absurd (let h = is in let e = rw (p, q, r, s) at h in cc)
   by true p true q false r false s = record { rises = rw (p, q, r, s) refl; next = eqb-true k (current marks + 1) q }
 
-all_follow : (before marks : List Mark) (m : Mark) → AllFollow before marks → MayFollow (before ++ marks) m → AllFollow before (marks ++ m ∷ [])
-all_follow before [] m all may = (subst (λ (l : List Mark). MayFollow l m) (append-nil before) may, tt)
-all_follow before (x ∷ marks) m all may = (all.0, all_follow (before ++ x ∷ []) marks m all.1 (subst (λ (l : List Mark). MayFollow l m) (sym (append_assoc before (x ∷ []) marks)) may))
+all_follow : (before marks : List Mark) (m : Mark) → AllFollow before marks → MarkMayFollow (before ++ marks) m → AllFollow before (marks ++ m ∷ [])
+all_follow before [] m all may = (subst (λ (l : List Mark). MarkMayFollow l m) (append-nil before) may, tt)
+all_follow before (x ∷ marks) m all may = (all.0, all_follow (before ++ x ∷ []) marks m all.1 (subst (λ (l : List Mark). MarkMayFollow l m) (sym (append_assoc before (x ∷ []) marks)) may))
 
-from_home : (marks : List Mark) (m : Mark) → AreFromHome marks → is_none marks ≡ false → MayFollow marks m → AreFromHome (marks ++ m ∷ [])
+from_home : (marks : List Mark) (m : Mark) → AreFromHome marks → is_none marks ≡ false → MarkMayFollow marks m → AreFromHome (marks ++ m ∷ [])
 from_home [] m from some may = absurd cc
 from_home (Home n s ∷ more) m from some may = (from.0, all_follow (Home n s ∷ []) more m from.1 may)
 from_home (Sealed w k u f ∷ more) m from some may = absurd from
 
-pub carried_on : (marks : List Mark) (last : Option ℕ) (sealed upto first_log at w k u f : ℕ) → Carried marks last sealed upto first_log → InLimits (Sealed w k u f) → is_home (Sealed w k u f) ≡ is_none marks
+pub carried_on : (marks : List Mark) (last : Option ℕ) (sealed upto first_log at w k u f : ℕ) → Carried marks last sealed upto first_log → MarkInLimits (Sealed w k u f) → is_home (Sealed w k u f) ≡ is_none marks
     → mark_after marks at (Sealed w k u f) ≡ Ok (marks ++ Sealed w k u f ∷ []) → Carried (marks ++ Sealed w k u f ∷ []) (Some w) k u f
 carried_on marks last sealed upto first_log at w k u f carried limits first is =
     let it = follows marks at w k u f is in

@@ -7,10 +7,10 @@ use Rattle.gor_model.proofs.Lists.{last_push}
 use Rattle.gor_marks.specs.declared.mark.Mark.{Mark}
 use Rattle.gor_marks.specs.declared.mark.Mark.TheVariants.{Home, Sealed}
 use Rattle.gor_image.specs.declared.fault.DamageKind.TheVariants.{Order}
-use Rattle.gor_image.specs.Grammars.{Reads, wrong}
+use Rattle.gor_image.specs.Grammars.{Reads, damage_at}
 use Rattle.gor_image.specs.Recovery.{is_above}
 use Rattle.gor_image.specs.Images.{sealed_window, sealed_upto, sealed_first_log, or_zero, current, base_of, first_log_of, mark_after}
-use Rattle.gor_image.specs.MarkLists.{MayFollow, AllFollow, AreMarks, AreMarksOrNone}
+use Rattle.gor_image.specs.MarkLists.{MarkMayFollow, AllFollow, AreMarks, AreMarksOrNone}
 use Rattle.gor_recover.specs.StoreReads.{IsBasedOn, told_by}
 use Rattle.gor_image.proofs.Filled.{some_more}
 
@@ -29,16 +29,16 @@ record Ends (marks : List Mark) : Type 0 where
 next_key : (marks : List Mark) (w k u f : ℕ) → mark_after marks 0 (Sealed w k u f) ≡ Ok (marks ++ Sealed w k u f ∷ []) → k ≡ current marks + 1
 next_key marks w k u f ok = at (is_above (base_of marks).window w) (nat_eq k (current marks + 1)) refl ok where
   after : Reads (List Mark)
-  after = if nat_lt u (base_of marks).upto then wrong 10 Order else if nat_lt f (first_log_of marks) then wrong 18 Order else Ok (marks ++ Sealed w k u f ∷ [])
+  after = if nat_lt u (base_of marks).upto then damage_at 10 Order else if nat_lt f (first_log_of marks) then damage_at 18 Order else Ok (marks ++ Sealed w k u f ∷ [])
 
   at : (b c : Bool) → nat_eq k (current marks + 1) ≡ c
-      → (if not b then wrong 2 Order else if not c then wrong 6 Order else if nat_lt u (base_of marks).upto then wrong 10 Order else if nat_lt f (first_log_of marks) then wrong 18 Order else Ok (marks ++ Sealed w k u f ∷ [])) ≡ Ok (marks ++ Sealed w k u f ∷ [])
+      → (if not b then damage_at 2 Order else if not c then damage_at 6 Order else if nat_lt u (base_of marks).upto then damage_at 10 Order else if nat_lt f (first_log_of marks) then damage_at 18 Order else Ok (marks ++ Sealed w k u f ∷ [])) ≡ Ok (marks ++ Sealed w k u f ∷ [])
       → k ≡ current marks + 1
-  at false c e is = absurd (let both : wrong 2 Order ≡ Ok (marks ++ Sealed w k u f ∷ []) = is in cc)
-  at true false e is = absurd (let both : wrong 6 Order ≡ Ok (marks ++ Sealed w k u f ∷ []) = is in cc)
+  at false c e is = absurd (let both : damage_at 2 Order ≡ Ok (marks ++ Sealed w k u f ∷ []) = is in cc)
+  at true false e is = absurd (let both : damage_at 6 Order ≡ Ok (marks ++ Sealed w k u f ∷ []) = is in cc)
   at true true e is = grind arith
 
-one_more : (marks : List Mark) (m : Mark) → MayFollow marks m → Ends (marks ++ m ∷ [])
+one_more : (marks : List Mark) (m : Mark) → MarkMayFollow marks m → Ends (marks ++ m ∷ [])
 one_more marks (Home n s) follow = absurd (let e : true ≡ false = follow.sealed in cc)
 one_more marks (Sealed w k u f) follow =
     let windows = some_more sealed_window marks (Sealed w k u f) w refl in

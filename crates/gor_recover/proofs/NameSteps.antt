@@ -9,8 +9,8 @@ use Rattle.gor_model.specs.declared.start.Row.{Row}
 use Rattle.gor_model.proofs.SlotLaws.{bytes_tell}
 use Rattle.gor_name.specs.declared.keyed_name.KeyedName.{KeyedName}
 use Rattle.gor_recover.specs.declared.names.NamedRow.{NamedRow}
-use Rattle.gor_image.specs.Recovery.{Names, with_name, without_name, WrongSlot, SameName, named, freed}
-use Rattle.gor_recover.specs.Naming.{seat, named_row, has_key, AreNames, AreRead}
+use Rattle.gor_image.specs.Recovery.{Names, with_name, without_name, WrongSlot, SameName, name_added, freed}
+use Rattle.gor_recover.specs.Naming.{seat, named_row, has_key, AreNames, NamesAreRead}
 
 -- ---- seats
 
@@ -43,10 +43,10 @@ module _ (names : Names) (seats : List (Option NamedRow)) (keys : List KeyedName
   held : (slot : ℕ) → is_some (names.holder slot) ≡ is_some (seat seats slot)
   held slot = ap is_some (are.holder slot) ∙ some_map (λ (r : NamedRow). key_of r.name) (seat seats slot)
 
-  pub taken : (uid slot floor : ℕ) (name : List ℕ) → is_some (seat seats slot) ≡ true → named names uid slot floor name ≡ Err WrongSlot
+  pub taken : (uid slot floor : ℕ) (name : List ℕ) → is_some (seat seats slot) ≡ true → name_added names uid slot floor name ≡ Err WrongSlot
   taken uid slot floor name is = let e : is_some (names.holder slot) ≡ true = held slot ∙ is in rw e refl
 
-  pub same_key : (uid slot floor : ℕ) (name : List ℕ) → is_some (seat seats slot) ≡ false → list_any (has_key (key_of name)) keys ≡ true → named names uid slot floor name ≡ Err SameName
+  pub same_key : (uid slot floor : ℕ) (name : List ℕ) → is_some (seat seats slot) ≡ false → list_any (has_key (key_of name)) keys ≡ true → name_added names uid slot floor name ≡ Err SameName
   same_key uid slot floor name free is =
       let e : is_some (names.holder slot) ≡ false = held slot ∙ free in
       let k : is_some (names.row (key_of name)) ≡ true = are.key (record { name = name }) ∙ is in
@@ -104,7 +104,7 @@ module _ (names : Names) (seats : List (Option NamedRow)) (keys : List KeyedName
       by (inr apart) (inl same) = absurd (apart.1 (sym same.1))
       by (inr apart) (inr also) = rw (apart.0, also.0) (are.key k)
 
-    pub begun : AreRead (named names row.uid row.slot row.floor row.name) (slice_set seats row.slot (Some row)) more
+    pub begun : NamesAreRead (name_added names row.uid row.slot row.floor row.name) (slice_set seats row.slot (Some row)) more
     begun = record {
       names = with_name names (key_of row.name) (named_row row);
       is = let e : is_some (names.holder row.slot) ≡ false = held row.slot ∙ free in let k : is_some (names.row (key_of row.name)) ≡ false = are.key (record { name = row.name }) ∙ absent in rw (e, k) refl;
@@ -152,7 +152,7 @@ module _ (names : Names) (seats : List (Option NamedRow)) (keys : List KeyedName
       by (inr apart) (inl same) = absurd (apart.1 (sym same.1))
       by (inr apart) (inr also) = rw (apart.0, also.0) (are.key k)
 
-    pub ended : AreRead (freed names slot (names.holder slot)) (slice_set seats slot None) more
+    pub ended : NamesAreRead (freed names slot (names.holder slot)) (slice_set seats slot None) more
     ended = record {
       names = without_name names (key_of row.name) slot;
       is = let e : names.holder slot ≡ Some (key_of row.name) = are.holder slot ∙ ap (option_map (λ (r : NamedRow). key_of r.name)) there in rw e refl;

@@ -9,11 +9,11 @@ use Rattle.gor_name.specs.declared.keyed_name.KeyedName.{KeyedName}
 use Rattle.gor_recover.specs.declared.names.NamedRow.{NamedRow}
 use Rattle.gor_recover.specs.declared.ranges.Range.{Range}
 use Rattle.gor_image.specs.Records.{Placed, Files}
-use Rattle.gor_image.specs.Recovery.{Names, no_names, filled, log_records, recovered}
-use Rattle.gor_image.specs.Holding.{row_at, rows_of}
+use Rattle.gor_image.specs.Recovery.{Names, no_names, filled, records_of_batches, recovered}
+use Rattle.gor_image.specs.Holding.{row_at, rows_of_map}
 use Rattle.gor_image.specs.Images.{row_held, rows_by_slot, names_in}
 use Rattle.gor_recover.specs.Naming.{seat, AreNames, named_row}
-use Rattle.gor_recover.specs.NamesRead.{names_from, AreNamed, filled_row, Stops}
+use Rattle.gor_recover.specs.NamesRead.{names_from, AreNamed, filled_row, StopsReading}
 use Rattle.gor_recover.specs.declared.recovered.OpenFault.{OpenFault}
 use Rattle.gor_recover.specs.Openings.{IsMet}
 
@@ -49,11 +49,11 @@ module _ (names : Names) (seats : List (Option NamedRow)) (keys : List KeyedName
     by (Some r) e = (are.row s r e).1
 
   slot_row : (files : Files) (s : ℕ) → row_at (recovered files names) s ≡ option_map (filled_row files) (seat seats s)
-  slot_row files s = ap (λ h. option_and_then (λ key. option_map (λ row. (key, row)) (option_map (filled files.base files.blocks (log_records files.batches)) (names.row key))) h) (are.holder s) ∙ by (seat seats s) refl where
+  slot_row files s = ap (λ h. option_and_then (λ key. option_map (λ row. (key, row)) (option_map (filled files.base files.blocks (records_of_batches files.batches)) (names.row key))) h) (are.holder s) ∙ by (seat seats s) refl where
     by : (o : Option NamedRow) → seat seats s ≡ o
-        → option_and_then (λ key. option_map (λ row. (key, row)) (option_map (filled files.base files.blocks (log_records files.batches)) (names.row key))) (option_map (λ r. key_of r.name) o) ≡ option_map (filled_row files) o
+        → option_and_then (λ key. option_map (λ row. (key, row)) (option_map (filled files.base files.blocks (records_of_batches files.batches)) (names.row key))) (option_map (λ r. key_of r.name) o) ≡ option_map (filled_row files) o
     by None e = refl
-    by (Some r) e = ap (λ x. option_map (λ row. (key_of r.name, row)) (option_map (filled files.base files.blocks (log_records files.batches)) x)) (are.row s r e).1
+    by (Some r) e = ap (λ x. option_map (λ row. (key_of r.name, row)) (option_map (filled files.base files.blocks (records_of_batches files.batches)) x)) (are.row s r e).1
 
   -- the seats from a slot on
   rows_from : {A : Type 0} (f : ℕ → Option A) (g : NamedRow → A) (a : ℕ) (xs : List (Option NamedRow)) → ((s : ℕ) → f (a + s) ≡ option_map g (seat xs s))
@@ -75,8 +75,8 @@ module _ (names : Names) (seats : List (Option NamedRow)) (keys : List KeyedName
   unfolding rows_by_slot
   by_slot len = ap (λ n. filter_map (row_held names) (range_with_len 0 n)) (sym len) ∙ rows_from (row_held names) named_row 0 seats (λ s. let e : 0 + s ≡ s = omega arith in ap (row_held names) e ∙ slot_held s)
 
-  pub keyed_by_slot : length seats ≡ slots_of_a_shard → (files : Files) → rows_of (recovered files names) ≡ map (filled_row files) (filter_map (λ seat. seat) seats)
-  unfolding rows_of
+  pub keyed_by_slot : length seats ≡ slots_of_a_shard → (files : Files) → rows_of_map (recovered files names) ≡ map (filled_row files) (filter_map (λ seat. seat) seats)
+  unfolding rows_of_map
   keyed_by_slot len files = ap (λ n. filter_map (row_at (recovered files names)) (range_with_len 0 n)) (sym len)
       ∙ rows_from (row_at (recovered files names)) (filled_row files) 0 seats (λ s. let e : 0 + s ≡ s = omega arith in ap (row_at (recovered files names)) e ∙ slot_row files s)
 
@@ -97,7 +97,7 @@ are_named upto ranges seats keys whole rows so_far len is = record {
 
 -- a refusal of the first that is left is one of the whole
 pub still_met : (list upto : ℕ) (ranges : List Range) (seats : List (Option NamedRow)) (keys : List KeyedName) (whole rest : List (Placed KeyRecord)) (key : Placed KeyRecord) (fault : OpenFault)
-    → NamesSoFar upto ranges seats keys whole (key ∷ rest) → ((names : Names) → AreNames names seats keys → Stops list upto ranges names key fault) → IsMet (names_in list (names_from upto ranges no_names whole)) fault
+    → NamesSoFar upto ranges seats keys whole (key ∷ rest) → ((names : Names) → AreNames names seats keys → StopsReading list upto ranges names key fault) → IsMet (names_in list (names_from upto ranges no_names whole)) fault
 still_met list upto ranges seats keys whole rest key fault so_far stops = subst (λ r. IsMet (names_in list r) fault) (sym so_far.left) (stops so_far.names so_far.are rest)
 
 pub none_left : {A : Type 0} (xs : List A) → length xs ≡ 0 → xs ≡ []

@@ -3,15 +3,15 @@ use Rattle.std.proofs.Common.{◌≡◌, ◌⊎◌, inl, inr, ℕ, zero, suc, �
 use Rattle.std.proofs.lemmas.Bool.{cases_lt}
 use Rattle.std.proofs.lemmas.Bool.Decides.{nat_tests}
 use Rattle.std.proofs.lemmas.List.{drop_all}
-use Rattle.gor_model.specs.Fields.{number_in, Reader, each_within, ◌>>=◌}
+use Rattle.gor_model.specs.Fields.{field_in, Reader, each_within, ◌>>=◌}
 use Rattle.gor_model.specs.declared.unit.Unit.{Unit as TimeUnit}
 use Rattle.gor_model.specs.declared.unit.Unit.TheVariants.{Second, Milli}
 use Rattle.gor_model.specs.declared.wrong.Misread.{Misread}
 use Rattle.gor_marks.specs.Reading.{home_in, sealed_in, kind_in, mark_in}
-use Rattle.gor_keys.specs.Reading.{series_in, delete_in, record_in, records_in, keys_in, created, living, in_unit}
+use Rattle.gor_keys.specs.Reading.{series_record_in, delete_in, key_record_in, key_records_in, keys_in, create_record, living, in_unit}
 use Rattle.std.specs.Prelude.{not, ◌&&◌, ◌==◌}
 use Rattle.std.specs.Int.{w64}
-use Rattle.gor_log.specs.Reading as logs
+use Rattle.gor_log.specs.Reading.{put_in, floor_in, seal_in, log_record_in, log_records_in, batch, header_in, log_in}
 
 -- a fault is at most at this place
 pub record Near {A : Type 0} (limit : ℕ) (r : Result A Misread) : Type 0 where
@@ -77,8 +77,8 @@ each_near read near (suc n) at (b ∷ bytes) limit fits =
 
 -- ---- key lists
 
-series_near : (unit : TimeUnit) (at : ℕ) (fields : List ℕ) (m : Misread) → series_in unit at fields ≡ Err m → m.at ≤ at + 1 + length fields
-unfolding series_in
+series_near : (unit : TimeUnit) (at : ℕ) (fields : List ℕ) (m : Misread) → series_record_in unit at fields ≡ Err m → m.at ≤ at + 1 + length fields
+unfolding series_record_in
 series_near Second at fields m e = grind (arith, nat_tests)
 series_near Milli at fields m e = grind (arith, nat_tests)
 
@@ -86,7 +86,7 @@ delete_near : (unit : TimeUnit) (at : ℕ) (fields : List ℕ) (m : Misread) →
 unfolding delete_in
 delete_near unit at fields m e = grind (arith, nat_tests)
 
-near_series : (unit : TimeUnit) (at kind : ℕ) (fields : List ℕ) → Near (at + length (kind ∷ fields)) (series_in unit at fields)
+near_series : (unit : TimeUnit) (at kind : ℕ) (fields : List ℕ) → Near (at + length (kind ∷ fields)) (series_record_in unit at fields)
 near_series unit at kind fields = record { at_most = λ m e. let low = series_near unit at fields m e in omega arith }
 
 near_delete : (unit : TimeUnit) (at kind : ℕ) (fields : List ℕ) → Near (at + length (kind ∷ fields)) (delete_in unit at fields)
@@ -95,17 +95,17 @@ near_delete unit at kind fields = record { at_most = λ m e. let low = delete_ne
 near_kind : {A : Type 0} (at : ℕ) (bytes : List ℕ) (m : Misread) → m.at ≡ at → Near {A = A} (at + length bytes) (Err m)
 near_kind at bytes m h = record { at_most = λ n e. let same : m ≡ n = cc in let place : m.at ≡ n.at = cc in omega arith }
 
-record_near : (unit : TimeUnit) (live : Bool) (at : ℕ) (bytes : List ℕ) → Near (at + length bytes) (record_in unit live at bytes)
-unfolding record_in
+record_near : (unit : TimeUnit) (live : Bool) (at : ℕ) (bytes : List ℕ) → Near (at + length bytes) (key_record_in unit live at bytes)
+unfolding key_record_in
 record_near unit live at [] = near_kind at [] _ refl
 record_near unit live at (kind ∷ fields) =
-    near_if (at + length (kind ∷ fields)) ((kind == 1) && not live) _ _ (near_bind _ (series_in unit at fields) _ (near_series unit at kind fields) (λ x. near_ok _ (created x.0, x.1 + 1)))
+    near_if (at + length (kind ∷ fields)) ((kind == 1) && not live) _ _ (near_bind _ (series_record_in unit at fields) _ (near_series unit at kind fields) (λ x. near_ok _ (create_record x.0, x.1 + 1)))
     (near_if (at + length (kind ∷ fields)) ((kind == 2) && not live) _ _ (near_delete unit at kind fields)
-    (near_if (at + length (kind ∷ fields)) ((kind == 3) && live) _ _ (near_bind _ (series_in unit at fields) _ (near_series unit at kind fields) (λ x. near_ok _ (living x.0, x.1 + 1)))
+    (near_if (at + length (kind ∷ fields)) ((kind == 3) && live) _ _ (near_bind _ (series_record_in unit at fields) _ (near_series unit at kind fields) (λ x. near_ok _ (living x.0, x.1 + 1)))
     (near_kind at (kind ∷ fields) _ refl)))
 
-near_keys : (unit : TimeUnit) (live : Bool) (rest : List ℕ) → Near (1 + length rest) (records_in unit live rest >>= λ records. Ok (in_unit unit records))
-near_keys unit live rest = near_bind _ (records_in unit live rest) _ (each_near (record_in unit live) (record_near unit live) (length rest) 1 rest (1 + length rest) (omega arith)) (λ records. near_ok _ (in_unit unit records))
+near_keys : (unit : TimeUnit) (live : Bool) (rest : List ℕ) → Near (1 + length rest) (key_records_in unit live rest >>= λ records. Ok (in_unit unit records))
+near_keys unit live rest = near_bind _ (key_records_in unit live rest) _ (each_near (key_record_in unit live) (record_near unit live) (length rest) 1 rest (1 + length rest) (omega arith)) (λ records. near_ok _ (in_unit unit records))
 
 pub keys_near : (live : Bool) (body : List ℕ) (m : Misread) → keys_in live body ≡ Err m → m.at ≤ length body
 unfolding keys_in
@@ -114,20 +114,20 @@ keys_near live (v ∷ rest) m e = let seconds = (near_keys Second live rest).at_
 
 -- ---- logs
 
-put_near : (at : ℕ) (fields : List ℕ) (m : Misread) → logs.put_in at fields ≡ Err m → m.at ≤ at + 1 + length fields
-unfolding logs.put_in
+put_near : (at : ℕ) (fields : List ℕ) (m : Misread) → put_in at fields ≡ Err m → m.at ≤ at + 1 + length fields
+unfolding put_in
 put_near at fields m e = grind (arith, nat_tests)
 
-floor_near : (at : ℕ) (fields : List ℕ) (m : Misread) → logs.floor_in at fields ≡ Err m → m.at ≤ at + 1 + length fields
-unfolding logs.floor_in
+floor_near : (at : ℕ) (fields : List ℕ) (m : Misread) → floor_in at fields ≡ Err m → m.at ≤ at + 1 + length fields
+unfolding floor_in
 floor_near at fields m e = grind (arith, nat_tests)
 
-seal_near : (at : ℕ) (fields : List ℕ) (m : Misread) → logs.seal_in at fields ≡ Err m → m.at ≤ at + 1 + length fields
-unfolding logs.seal_in
+seal_near : (at : ℕ) (fields : List ℕ) (m : Misread) → seal_in at fields ≡ Err m → m.at ≤ at + 1 + length fields
+unfolding seal_in
 seal_near at fields m e = grind (arith, nat_tests)
 
-log_record_near : (at : ℕ) (bytes : List ℕ) (m : Misread) → logs.record_in at bytes ≡ Err m → m.at ≤ at + length bytes
-unfolding logs.record_in
+log_record_near : (at : ℕ) (bytes : List ℕ) (m : Misread) → log_record_in at bytes ≡ Err m → m.at ≤ at + length bytes
+unfolding log_record_in
 log_record_near at [] m e = grind (arith, nat_tests)
 log_record_near at (kind ∷ fields) m e =
     let put = put_near at fields m in
@@ -135,19 +135,19 @@ log_record_near at (kind ∷ fields) m e =
     let seal = seal_near at fields m in
     grind (arith, nat_tests)
 
-near_batch : (first last : ℕ) (bytes : List ℕ) → Near (17 + length (drop 16 bytes)) (logs.records_in (drop 16 bytes) >>= λ records. Ok (logs.batch first last records))
+near_batch : (first last : ℕ) (bytes : List ℕ) → Near (17 + length (drop 16 bytes)) (log_records_in (drop 16 bytes) >>= λ records. Ok (batch first last records))
 near_batch first last bytes =
-    near_bind _ (logs.records_in (drop 16 bytes)) _
-    (each_near logs.record_in (λ at b. record { at_most = log_record_near at b }) (length (drop 16 bytes)) 17 (drop 16 bytes) (17 + length (drop 16 bytes)) (omega arith)) (λ records. near_ok _ (logs.batch first last records))
+    near_bind _ (log_records_in (drop 16 bytes)) _
+    (each_near log_record_in (λ at b. record { at_most = log_record_near at b }) (length (drop 16 bytes)) 17 (drop 16 bytes) (17 + length (drop 16 bytes)) (omega arith)) (λ records. near_ok _ (batch first last records))
 
-header_near : (bytes : List ℕ) (m : Misread) → logs.header_in bytes ≡ Err m → m.at ≤ 1 + length bytes
-unfolding logs.header_in
+header_near : (bytes : List ℕ) (m : Misread) → header_in bytes ≡ Err m → m.at ≤ 1 + length bytes
+unfolding header_in
 header_near bytes m e =
-    let inner = (near_batch (number_in w64 0 bytes) (number_in w64 8 bytes) bytes).at_most m in
+    let inner = (near_batch (field_in w64 0 bytes) (field_in w64 8 bytes) bytes).at_most m in
     let long = length-drop 16 bytes in
     grind (arith, nat_tests)
 
-pub log_near : (body : List ℕ) (m : Misread) → logs.log_in body ≡ Err m → m.at ≤ length body
-unfolding logs.log_in
+pub log_near : (body : List ℕ) (m : Misread) → log_in body ≡ Err m → m.at ≤ length body
+unfolding log_in
 log_near [] m e = grind (arith, nat_tests)
 log_near (v ∷ rest) m e = let inner = header_near rest m in grind (arith, nat_tests)

@@ -15,10 +15,10 @@ use Rattle.gor_recover.specs.declared.recovered.OpenFault.{OpenFault}
 use Rattle.gor_recover.specs.declared.recovered.OpenFault.TheVariants as refused
 use Rattle.gor_recover.specs.declared.recovered.Recovered.{Recovered}
 use Rattle.gor_recover.specs.declared.gathering.GatheredFiles.{GatheredFiles}
-use Rattle.gor_image.specs.Records.{Batch, BlockRow, Base, Files}
+use Rattle.gor_image.specs.Records.{BatchInLog, BlockRow, Base, Files}
 use Rattle.gor_image.specs.Recovery.{base_end}
 use Rattle.gor_image.specs.Grammars.{and_then}
-use Rattle.gor_image.specs.Holding.{rows_of, start_of}
+use Rattle.gor_image.specs.Holding.{rows_of_map, start_of_map}
 use Rattle.gor_image.specs.Images.{KeysRead, in_file, read_walk, read_gated, read_keys, read_blocks, read_logs, read_files, current, base_of, live_windows, remaining_logs, map_of_files, map_of_marks, map_of, marks_of, same_home, with_limits, opens_to, fresh_map, slots_needed}
 use Rattle.gor_recover.specs.Openings.{IsMet, CountsOpenFault}
 use Rattle.gor_recover.specs.NamesRead.{IsCalm}
@@ -43,7 +43,7 @@ module _ (tells : Bool) (seen : Contents) (marks : List Mark) (base : Based) (st
 
   logs_of : IsTrue tells → read_logs seen (remaining_logs marks) [] ≡ Ok has.files.batches
   logs_of t = by_keys (read_gated seen (read_keys (nat_lt 0 (current marks))) (Keys (current marks)) (record { bodies = 0; number = (base_of marks).upto; slot = None; records = [] })) (has.read t) where
-    by_logs : (keys : KeysRead) (rows : List BlockRow) (o : Result (List Batch) ImageFault) → read_logs seen (remaining_logs marks) [] ≡ o
+    by_logs : (keys : KeysRead) (rows : List BlockRow) (o : Result (List BatchInLog) ImageFault) → read_logs seen (remaining_logs marks) [] ≡ o
         → and_then o (λ batches. Ok (record { base = base_of marks; keys = keys.records; blocks = rows; batches = batches })) ≡ Ok has.files → read_logs seen (remaining_logs marks) [] ≡ Ok has.files.batches
     by_logs keys rows (Err f) e is = absurd (let both : Err f ≡ Ok has.files = is in cc)
     by_logs keys rows (Ok batches) e is =
@@ -159,11 +159,11 @@ module _ (seen : Contents) (shards shard slots : ℕ) where
 
   -- ---- where there is no mark
 
-  fresh_start : (r : Recovered) → IsFresh r → recovered_start slots r ≡ start_of slots fresh_map
+  fresh_start : (r : Recovered) → IsFresh r → recovered_start slots r ≡ start_of_map slots fresh_map
   unfolding recovered_start
   fresh_start r is =
       let a = is.floor in let b = is.next in
-      let c : map keyed_row r.rows.items ≡ rows_of fresh_map = ap (map keyed_row) is.rows ∙ sym fresh_rows in
+      let c : map keyed_row r.rows.items ≡ rows_of_map fresh_map = ap (map keyed_row) is.rows ∙ sym fresh_rows in
       cc
 
   fresh_limits : with_limits slots fresh_map ≡ Ok fresh_map

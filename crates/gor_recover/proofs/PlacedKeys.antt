@@ -9,7 +9,7 @@ use Rattle.gor_model.specs.declared.unit.Unit.{Unit as TimeUnit}
 use Rattle.gor_model.specs.declared.unit.Unit.TheVariants.{Second, Milli}
 use Rattle.gor_keys.specs.declared.record.KeyRecord.{KeyRecord}
 use Rattle.gor_keys.specs.declared.record.KeyRecord.TheVariants.{Create, Delete, Live}
-use Rattle.gor_keys.specs.Spelling.{record_spelling, spelling, IsRecord}
+use Rattle.gor_keys.specs.Spelling.{key_record_spelling, keys_spelling, IsKeyRecord}
 use Rattle.gor_recover.specs.declared.records.PlacedKey.{PlacedKey}
 use Rattle.gor_image.specs.Records.{Placed}
 use Rattle.gor_image.specs.Grammars.{keys_placed, is_of_millis}
@@ -31,7 +31,7 @@ lengths_more spell old rest x at len limit is size fits =
     omega arith
 
 pub placed_more : (unit : TimeUnit) (at len : ℕ) (placed more : List PlacedKey) (p : PlacedKey) (x : KeyRecord) (old rest : List KeyRecord) (total : List (Placed KeyRecord)) → old ≡ x ∷ rest → p.at ≡ at → p.it ≡ x
-    → len ≡ length (record_spelling unit x) → more ≡ placed ++ p ∷ [] → map key_shown placed ++ keys_placed unit at old ≡ total → map key_shown more ++ keys_placed unit (at + len) rest ≡ total
+    → len ≡ length (key_record_spelling unit x) → more ≡ placed ++ p ∷ [] → map key_shown placed ++ keys_placed unit at old ≡ total → map key_shown more ++ keys_placed unit (at + len) rest ≡ total
 placed_more unit at len placed more p x old rest total is place it size pushed so_far =
     ap (λ l. map key_shown l ++ keys_placed unit (at + len) rest) pushed
     ∙ ap (λ l. l ++ keys_placed unit (at + len) rest) (map-append key_shown placed (p ∷ []))
@@ -50,18 +50,18 @@ shown_at view P (y ∷ xs) (suc i) x all within is = shown_at view P xs i x all.
 
 -- ---- limits
 
-of_record : (live : Bool) (r : KeyRecord) → IsRecord Second live r → IsKeyLimited r
+of_record : (live : Bool) (r : KeyRecord) → IsKeyRecord Second live r → IsKeyLimited r
 of_record live (Create number slot floor name) is = is.1
 of_record live (Delete number slot) is = is.1
 of_record live (Live uid slot floor name) is = is.1
 
-keys_at_places : (live : Bool) (at : ℕ) (records : List KeyRecord) → AllByRecursion (IsRecord Second live) records → at + length (flat_map (record_spelling Second) records) < 2 ^ 63 → AreKeysAt (keys_placed Second at records)
+keys_at_places : (live : Bool) (at : ℕ) (records : List KeyRecord) → AllByRecursion (IsKeyRecord Second live) records → at + length (flat_map (key_record_spelling Second) records) < 2 ^ 63 → AreKeysAt (keys_placed Second at records)
 keys_at_places live at [] all fits = tt
 keys_at_places live at (r ∷ records) all fits =
-    let more = lengths_more (record_spelling Second) (r ∷ records) records r at (length (record_spelling Second r)) (2 ^ 63) refl refl fits in
-    (record { place = omega arith; limits = of_record live r all.0 }, keys_at_places live (at + length (record_spelling Second r)) records all.1 more)
+    let more = lengths_more (key_record_spelling Second) (r ∷ records) records r at (length (key_record_spelling Second r)) (2 ^ 63) refl refl fits in
+    (record { place = omega arith; limits = of_record live r all.0 }, keys_at_places live (at + length (key_record_spelling Second r)) records all.1 more)
 
-pub body_limits : (unit : TimeUnit) (live : Bool) (at : ℕ) (body : List ℕ) (records : List KeyRecord) → is_of_millis body ≡ false → AllByRecursion (IsRecord unit live) records → body ≡ spelling unit records
+pub body_limits : (unit : TimeUnit) (live : Bool) (at : ℕ) (body : List ℕ) (records : List KeyRecord) → is_of_millis body ≡ false → AllByRecursion (IsKeyRecord unit live) records → body ≡ keys_spelling unit records
     → at + length body < 2 ^ 63 → AreKeysAt (keys_placed unit (at + 1) records)
-body_limits Second live at body records seconds all is fits = let size : length body ≡ 1 + length (flat_map (record_spelling Second) records) = ap length is ∙ omega arith in keys_at_places live (at + 1) records all (omega arith)
+body_limits Second live at body records seconds all is fits = let size : length body ≡ 1 + length (flat_map (key_record_spelling Second) records) = ap length is ∙ omega arith in keys_at_places live (at + 1) records all (omega arith)
 body_limits Milli live at body records seconds all is fits = absurd (let millis : is_of_millis body ≡ true = ap is_of_millis is in cc)

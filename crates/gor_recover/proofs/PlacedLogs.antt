@@ -5,17 +5,17 @@ use Rattle.std.specs.List.{AllByRecursion}
 use Rattle.std.proofs.lemmas.List.{map-append}
 use Rattle.gor_model.proofs.Lists.{last_push, all_push}
 use Rattle.gor_log.specs.declared.record.LogRecord.{LogRecord}
-use Rattle.gor_log.specs.Spelling.{record_spelling, IsRecord}
+use Rattle.gor_log.specs.Spelling.{log_record_spelling, IsLogRecord}
 use Rattle.gor_recover.specs.declared.records.PlacedLog.{PlacedLog}
 use Rattle.gor_recover.specs.declared.records.LogPart.{LogPart}
-use Rattle.gor_image.specs.Records.{Placed, Batch}
+use Rattle.gor_image.specs.Records.{Placed, BatchInLog}
 use Rattle.gor_image.specs.Grammars.{records_placed}
 use Rattle.gor_image.specs.Holding.{BatchesRise}
 use Rattle.gor_image.specs.Images.{last_number, or_zero}
 use Rattle.gor_recover.specs.Parts.{record_shown, batch_shown}
 use Rattle.gor_recover.specs.BatchReads.{IsPart, AreParts}
 
-pub placed_more : (at len : ℕ) (placed more : List PlacedLog) (x : LogRecord) (old rest : List LogRecord) (total : List (Placed LogRecord)) → old ≡ x ∷ rest → len ≡ length (record_spelling x)
+pub placed_more : (at len : ℕ) (placed more : List PlacedLog) (x : LogRecord) (old rest : List LogRecord) (total : List (Placed LogRecord)) → old ≡ x ∷ rest → len ≡ length (log_record_spelling x)
     → more ≡ placed ++ record { at = at + 9; it = x } ∷ [] → map record_shown placed ++ records_placed at old ≡ total → map record_shown more ++ records_placed (at + len) rest ≡ total
 placed_more at len placed more x old rest total is size pushed so_far =
     ap (λ l. map record_shown l ++ records_placed (at + len) rest) pushed
@@ -30,9 +30,9 @@ placed_more at len placed more x old rest total is size pushed so_far =
     one : record { at = at + 9; it = x } ∷ records_placed (at + len) rest ≡ records_placed at old
     one = rw (is, size) refl
 
-pub records_limited : (at : ℕ) (entries : List LogRecord) → AllByRecursion IsRecord entries → AllByRecursion (λ r. IsRecord r.it) (records_placed at entries)
+pub records_limited : (at : ℕ) (entries : List LogRecord) → AllByRecursion IsLogRecord entries → AllByRecursion (λ r. IsLogRecord r.it) (records_placed at entries)
 records_limited at [] all = tt
-records_limited at (r ∷ entries) all = (all.0, records_limited (at + length (record_spelling r)) entries all.1)
+records_limited at (r ∷ entries) all = (all.0, records_limited (at + length (log_record_spelling r)) entries all.1)
 
 -- ---- batches
 
@@ -47,13 +47,13 @@ module _ (parts more : List LogPart) (part : LogPart) (pushed : More parts more 
   pub limits_more : AreParts (map batch_shown parts) → IsPart (batch_shown part) → AreParts (map batch_shown more)
   limits_more all is = subst AreParts (sym pushed.shown) (all_push IsPart (map batch_shown parts) (batch_shown part) all is)
 
-  pub rise_more : (before last : ℕ) → ((rest : List Batch) → BatchesRise last rest → BatchesRise before (map batch_shown parts ++ rest)) → last < part.first → IsPart (batch_shown part)
-      → (rest : List Batch) → BatchesRise part.last rest → BatchesRise before (map batch_shown more ++ rest)
+  pub rise_more : (before last : ℕ) → ((rest : List BatchInLog) → BatchesRise last rest → BatchesRise before (map batch_shown parts ++ rest)) → last < part.first → IsPart (batch_shown part)
+      → (rest : List BatchInLog) → BatchesRise part.last rest → BatchesRise before (map batch_shown more ++ rest)
   rise_more before last so_far above is rest rises =
       subst (BatchesRise before) (sym (append_assoc (map batch_shown parts) (batch_shown part ∷ []) rest) ∙ ap (λ l. l ++ rest) (sym pushed.shown)) (so_far (batch_shown part ∷ rest) (above, is.range.rises, rises))
 
-  pub behind_more : (batches : List Batch) → batches ++ map batch_shown more ≡ batches ++ map batch_shown parts ++ batch_shown part ∷ []
+  pub behind_more : (batches : List BatchInLog) → batches ++ map batch_shown more ≡ batches ++ map batch_shown parts ++ batch_shown part ∷ []
   behind_more batches = ap (λ l. batches ++ l) pushed.shown ∙ sym (append_assoc batches (map batch_shown parts) (batch_shown part ∷ []))
 
-  pub last_is : (batches : List Batch) → last_number (batches ++ map batch_shown more) ≡ part.last
-  last_is batches = ap last_number (behind_more batches) ∙ ap (λ o. or_zero (option_map (λ (b : Batch). b.last) o)) (last_push (batches ++ map batch_shown parts) (batch_shown part))
+  pub last_is : (batches : List BatchInLog) → last_number (batches ++ map batch_shown more) ≡ part.last
+  last_is batches = ap last_number (behind_more batches) ∙ ap (λ o. or_zero (option_map (λ (b : BatchInLog). b.last) o)) (last_push (batches ++ map batch_shown parts) (batch_shown part))

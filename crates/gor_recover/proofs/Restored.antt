@@ -10,8 +10,8 @@ use Rattle.gor_model.specs.PlainMap.{greatest, last_of}
 use Rattle.gor_model.specs.Windows.{window, last_window, greatest_time, slots_of_a_shard}
 use Rattle.gor_model.specs.Starts.{IsFloor, IsStart}
 use Rattle.gor_model.proofs.Lists.{all_mapped, all_unmapped, all_joined, all_weaker, all_filter, all_last}
-use Rattle.gor_keys.specs.Spelling as keys_spelling
-use Rattle.gor_log.specs.Spelling as log_spelling
+use Rattle.gor_keys.specs.Spelling.{IsFloorInUnit}
+use Rattle.gor_log.specs.Spelling.{IsLogRecord}
 use Rattle.gor_keys.specs.declared.record.KeyRecord.{KeyRecord}
 use Rattle.gor_keys.specs.declared.record.KeyRecord.TheVariants.{Create, Delete, Live}
 use Rattle.gor_log.specs.declared.record.LogRecord.{LogRecord}
@@ -25,18 +25,18 @@ use Rattle.gor_recover.specs.declared.recovered.RecoveredRow.{RecoveredRow}
 use Rattle.gor_recover.specs.declared.recovered.Recovered.{Recovered}
 use Rattle.gor_marks.specs.declared.mark.Mark.{Mark}
 use Rattle.gor_recover.specs.declared.gathering.GatheredFiles.{GatheredFiles}
-use Rattle.gor_image.specs.Records.{Placed, Batch, BlockRow, Base, Files}
-use Rattle.gor_image.specs.Recovery.{Names, no_names, read_name, read_each, counts, is_covered, is_within, counted_keys, names_of, log_records, filled, recovered, next_of, number_in, base_end, floor_end}
+use Rattle.gor_image.specs.Records.{Placed, BatchInLog, BlockRow, Base, Files}
+use Rattle.gor_image.specs.Recovery.{Names, no_names, read_name, read_each, counts, is_covered, is_within, counted_keys, names_of, records_of_batches, filled, recovered, next_of, change_number_in, base_end, floor_end}
 use Rattle.gor_image.specs.Grammars.{and_then}
-use Rattle.gor_image.specs.Holding.{RecoverTo, IsKeyUidBelow, BatchesRise, rows_of, start_of}
+use Rattle.gor_image.specs.Holding.{RecoverTo, IsKeyUidBelow, BatchesRise, rows_of_map, start_of_map}
 use Rattle.gor_image.specs.Images.{last_number, or_zero, names_in, rows_rise, row_held, rows_by_slot, map_of_files, slots_needed, with_limits}
 use Rattle.gor_recover.specs.Openings.{IsMet}
 use Rattle.gor_recover.specs.Parts.{key_shown}
 use Rattle.gor_recover.specs.Ranges.{range_of, has_number}
 use Rattle.gor_recover.specs.KeyReads.{IsKeyLimited, IsKeyAt, AreKeysAt}
-use Rattle.gor_recover.specs.RowReads.{IsRow, AreRows}
+use Rattle.gor_recover.specs.RowReads.{IsBlockRow, AreBlockRows}
 use Rattle.gor_recover.specs.BatchReads.{IsPart, AreParts}
-use Rattle.gor_recover.specs.Gathering.{has_uid, HasSeries}
+use Rattle.gor_recover.specs.Gathering.{has_uid, SeriesIsThere}
 use Rattle.gor_recover.specs.Naming.{HasSlot, covers, counts_in, named_row}
 use Rattle.gor_recover.specs.NamesRead.{names_from, AreNamed, filled_row}
 use Rattle.gor_recover.specs.Filling.{AreFilled}
@@ -59,12 +59,12 @@ low_slot (Live uid slot floor name) limits = let l = limits.slot in omega arith
 pub keys_low : (keys : List PlacedKey) → AreKeysAt (map key_shown keys) → AllByRecursion (λ k. HasSlot slots_of_a_shard k.it) keys
 keys_low keys all = all_weaker (λ (k : PlacedKey). IsKeyAt (key_shown k)) (λ (k : PlacedKey). HasSlot slots_of_a_shard k.it) keys (λ k h. low_slot k.it h.limits) (all_unmapped IsKeyAt key_shown keys all)
 
-pub number_low : (it : KeyRecord) → IsKeyLimited it → unwrap_or (number_in it) 0 < 2 ^ 63
+pub number_low : (it : KeyRecord) → IsKeyLimited it → unwrap_or (change_number_in it) 0 < 2 ^ 63
 number_low (Create number slot floor name) limits = limits.number.1
 number_low (Delete number slot) limits = limits.number.1
 number_low (Live uid slot floor name) limits = omega arith
 
-floor_is : (floor : ℕ) → keys_spelling.IsFloor Second floor → IsFloor floor
+floor_is : (floor : ℕ) → IsFloorInUnit Second floor → IsFloor floor
 floor_is floor limits = by (cases_lt 0 floor) where
   by : (0 < floor) ⊎ (floor ≤ 0) → IsFloor floor
   by (inr none) = inl (omega arith)
@@ -85,7 +85,7 @@ row_slot (Create number slot floor name) limits = let l = limits.slot in omega a
 row_slot (Live uid slot floor name) limits = let l = limits.slot in omega arith
 row_slot (Delete number slot) limits = tt
 
-log_low : (r : LogRecord) → log_spelling.IsRecord r → IsLogInLimits r
+log_low : (r : LogRecord) → IsLogRecord r → IsLogInLimits r
 log_low (Put uid time word) limits = limits.time
 log_low (Floor w) limits = limits
 log_low (Seal uid w) limits = limits.window
@@ -93,16 +93,16 @@ log_low (Seal uid w) limits = limits.window
 all_it : (P : LogRecord → Type 0) (rs : List (Placed LogRecord)) → AllByRecursion (λ r. P r.it) rs → AllByRecursion P (map (λ r. r.it) rs)
 all_it P rs all = all_mapped P (λ (r : Placed LogRecord). r.it) rs all
 
-logs_low : (batches : List Batch) → AreParts batches → AllByRecursion IsLogInLimits (log_records batches)
+logs_low : (batches : List BatchInLog) → AreParts batches → AllByRecursion IsLogInLimits (records_of_batches batches)
 logs_low [] all = tt
-logs_low (b ∷ batches) all = all_joined IsLogInLimits (map (λ r. r.it) b.records) (log_records batches)
-    (all_it IsLogInLimits b.records (all_weaker (λ (r : Placed LogRecord). log_spelling.IsRecord r.it) (λ (r : Placed LogRecord). IsLogInLimits r.it) b.records (λ r h. log_low r.it h) all.0.records)) (logs_low batches all.1)
+logs_low (b ∷ batches) all = all_joined IsLogInLimits (map (λ r. r.it) b.records) (records_of_batches batches)
+    (all_it IsLogInLimits b.records (all_weaker (λ (r : Placed LogRecord). IsLogRecord r.it) (λ (r : Placed LogRecord). IsLogInLimits r.it) b.records (λ r h. log_low r.it h) all.0.records)) (logs_low batches all.1)
 
 point_low : (w : ℕ) (p : Point) → w ≤ last_window → window p.time ≡ w → p.time ≤ greatest_time
 point_low w p le is = omega arith
 
-blocks_low : (rows : List BlockRow) → AreRows rows → AllByRecursion (λ b. AllByRecursion (λ (p : Point). p.time ≤ greatest_time) b.points) rows
-blocks_low rows all = all_weaker IsRow (λ (b : BlockRow). AllByRecursion (λ (p : Point). p.time ≤ greatest_time) b.points) rows
+blocks_low : (rows : List BlockRow) → AreBlockRows rows → AllByRecursion (λ b. AllByRecursion (λ (p : Point). p.time ≤ greatest_time) b.points) rows
+blocks_low rows all = all_weaker IsBlockRow (λ (b : BlockRow). AllByRecursion (λ (p : Point). p.time ≤ greatest_time) b.points) rows
     (λ b h. all_weaker (λ (p : Point). window p.time ≡ b.window) (λ (p : Point). p.time ≤ greatest_time) b.points (λ p i. point_low b.window p h.limit i) h.inside) all
 
 pub files_low : (files : Files) (upto : ℕ) (store : GatheredFiles) → AreGatheredOf files upto store → InLimits files
@@ -115,25 +115,25 @@ files_low files upto store is = record {
 
 -- ---- numbers
 
-last_low : (batches : List Batch) → AreParts batches → last_number batches < 2 ^ 63
+last_low : (batches : List BatchInLog) → AreParts batches → last_number batches < 2 ^ 63
 last_low batches all = by (last_of batches) refl where
-  by : (o : Option Batch) → last_of batches ≡ o → or_zero (option_map (λ b. b.last) o) < 2 ^ 63
+  by : (o : Option BatchInLog) → last_of batches ≡ o → or_zero (option_map (λ b. b.last) o) < 2 ^ 63
   by None e = omega arith
   by (Some b) e = (all_last IsPart batches all b e).range.below
 
 pub from_low : (files : Files) (upto : ℕ) (store : GatheredFiles) → AreGatheredOf files upto store → max upto store.logs.last < 2 ^ 63
 from_low files upto store is = let a = is.below in let b = subst (λ n. n < 2 ^ 63) (sym is.logs_are.last) (last_low files.batches is.parts) in omega arith
 
-ends : ℕ → List Batch → ℕ
+ends : ℕ → List BatchInLog → ℕ
 ends k [] = k
 ends k (b ∷ batches) = ends b.last batches
 
-ends_up : (k : ℕ) (batches : List Batch) → BatchesRise k batches → k ≤ ends k batches
+ends_up : (k : ℕ) (batches : List BatchInLog) → BatchesRise k batches → k ≤ ends k batches
 unfolding ends
 ends_up k [] rise = omega arith
 ends_up k (b ∷ batches) rise = let a = rise.0 in let c = rise.1 in let d = ends_up b.last batches rise.2 in omega arith
 
-greatest_ends : (n k : ℕ) (batches : List Batch) → BatchesRise k batches → max (greatest n (map (λ b. b.last) batches)) k ≡ max n (ends k batches)
+greatest_ends : (n k : ℕ) (batches : List BatchInLog) → BatchesRise k batches → max (greatest n (map (λ b. b.last) batches)) k ≡ max n (ends k batches)
 unfolding ends
 greatest_ends n k [] rise = refl
 greatest_ends n k (b ∷ batches) rise =
@@ -141,23 +141,23 @@ greatest_ends n k (b ∷ batches) rise =
     let e : max (greatest n (map (λ b. b.last) batches)) b.last ≡ max n (ends b.last batches) = greatest_ends n b.last batches rise.2 in
     omega arith
 
-ends_is : (k : ℕ) (batches : List Batch) → ends k batches ≡ unwrap_or (option_map (λ b. b.last) (last_of batches)) k
+ends_is : (k : ℕ) (batches : List BatchInLog) → ends k batches ≡ unwrap_or (option_map (λ b. b.last) (last_of batches)) k
 unfolding ends
 ends_is k [] = refl
 ends_is k (b ∷ batches) = ends_is b.last batches ∙ by (last_of batches) where
-  by : (o : Option Batch) → unwrap_or (option_map (λ b. b.last) o) b.last ≡ (unwrap_or o b).last
+  by : (o : Option BatchInLog) → unwrap_or (option_map (λ b. b.last) o) b.last ≡ (unwrap_or o b).last
   by None = refl
   by (Some x) = refl
 
-zero_end : (o : Option Batch) → unwrap_or (option_map (λ b. b.last) o) 0 ≡ or_zero (option_map (λ b. b.last) o)
+zero_end : (o : Option BatchInLog) → unwrap_or (option_map (λ b. b.last) o) 0 ≡ or_zero (option_map (λ b. b.last) o)
 zero_end None = refl
 zero_end (Some b) = refl
 
-pub next_is : (files : Files) (upto : ℕ) (store : GatheredFiles) → AreGatheredOf files upto store → (n : ℕ) → n ≡ greatest (max upto store.logs.last) (filter_map (λ r. number_in r.it) (map key_shown store.keys.items)) → n + 1 ≡ next_of files
+pub next_is : (files : Files) (upto : ℕ) (store : GatheredFiles) → AreGatheredOf files upto store → (n : ℕ) → n ≡ greatest (max upto store.logs.last) (filter_map (λ r. change_number_in r.it) (map key_shown store.keys.items)) → n + 1 ≡ next_of files
 next_is files upto store is n greatest_is =
     let both : max upto store.logs.last ≡ greatest files.base.upto (map (λ b. b.last) files.batches) = from in
-    ap (λ m. m + 1) (greatest_is ∙ (ap (λ m. greatest m (filter_map (λ r. number_in r.it) (map key_shown store.keys.items))) both
-    ∙ ap (λ l. greatest (greatest files.base.upto (map (λ b. b.last) files.batches)) (filter_map (λ r. number_in r.it) l)) (sym is.keys_are))) where
+    ap (λ m. m + 1) (greatest_is ∙ (ap (λ m. greatest m (filter_map (λ r. change_number_in r.it) (map key_shown store.keys.items))) both
+    ∙ ap (λ l. greatest (greatest files.base.upto (map (λ b. b.last) files.batches)) (filter_map (λ r. change_number_in r.it) l)) (sym is.keys_are))) where
       from : max upto store.logs.last ≡ greatest files.base.upto (map (λ b. b.last) files.batches)
       from =
           let lasts : store.logs.last ≡ ends 0 files.batches = is.logs_are.last ∙ sym (ends_is 0 files.batches ∙ zero_end (last_of files.batches)) in
@@ -166,7 +166,7 @@ next_is files upto store is n greatest_is =
 
 -- ---- names
 
-same_count : (base : Base) (batches : List Batch) (upto : ℕ) (ranges : List Range) → base.upto ≡ upto → ranges ≡ map range_of batches → (k : KeyRecord) → counts base batches k ≡ counts_in upto ranges k
+same_count : (base : Base) (batches : List BatchInLog) (upto : ℕ) (ranges : List Range) → base.upto ≡ upto → ranges ≡ map range_of batches → (k : KeyRecord) → counts base batches k ≡ counts_in upto ranges k
 same_count base batches upto ranges same are (Create number slot floor name) = covered number where
   covered : (n : ℕ) → is_covered base batches n ≡ covers upto ranges n
   covered n = ap (λ u. nat_le n u || list_any (is_within n) batches) same ∙ ap (λ b. nat_le n upto || b) (any_range n batches ∙ ap (list_any (has_number n)) (sym are))
@@ -186,7 +186,7 @@ names_same files upto store is =
     (λ r. same_count files.base files.batches upto store.logs.ranges.items is.upto_is is.logs_are.ranges r.it))
     ∙ ap (λ l. names_from upto store.logs.ranges.items no_names l) is.keys_are
 
-has_row : (series : List Gathered) (k : KeyRecord) → HasSeries series k → IsRecordOf (λ q r. IsTrue (list_any (has_uid r.uid) series)) k
+has_row : (series : List Gathered) (k : KeyRecord) → SeriesIsThere series k → IsRecordOf (λ q r. IsTrue (list_any (has_uid r.uid) series)) k
 has_row series (Create number slot floor name) has = has
 has_row series (Live uid slot floor name) has = has
 has_row series (Delete number slot) has = tt
@@ -201,7 +201,7 @@ rows_there files upto store is rows named = all_rows (λ r. IsTrue (list_any (ha
     (read_have (λ k r. IsTrue (list_any (has_uid r.uid) store.series)) files named.names (names_same files upto store is ∙ named.is)
     (subst (AllByRecursion (λ (x : Placed KeyRecord). IsRecordOf (λ k r. IsTrue (list_any (has_uid r.uid) store.series)) x.it)) (sym is.keys_are)
     (all_mapped (λ (x : Placed KeyRecord). IsRecordOf (λ k r. IsTrue (list_any (has_uid r.uid) store.series)) x.it) key_shown store.keys.items
-    (all_weaker (λ (k : PlacedKey). HasSeries store.series k.it) (λ (k : PlacedKey). IsRecordOf (λ q r. IsTrue (list_any (has_uid r.uid) store.series)) k.it) store.keys.items (λ k h. has_row store.series k.it h) is.has))))
+    (all_weaker (λ (k : PlacedKey). SeriesIsThere store.series k.it) (λ (k : PlacedKey). IsRecordOf (λ q r. IsTrue (list_any (has_uid r.uid) store.series)) k.it) store.keys.items (λ k h. has_row store.series k.it h) is.has))))
     named.rows_are
 
 -- ---- refusals
@@ -227,7 +227,7 @@ module _ (files : Files) (upto : ℕ) (store : GatheredFiles) (is : AreGatheredO
       pub map_is : map_of_files list files ≡ Ok (recovered files named.names)
       map_is = map_by ∙ ap (λ r. and_then r (λ t. Ok (recovered files named.names))) filled_are.rise
 
-      rows_are : rows_of (recovered files named.names) ≡ map keyed_row found
+      rows_are : rows_of_map (recovered files named.names) ≡ map keyed_row found
       rows_are = named.keyed files ∙ sym filled_are.are
 
       map_map : (xs : List RecoveredRow) → map (λ r. r.1.slot + 1) (map keyed_row xs) ≡ map (λ r. r.slot + 1) xs
@@ -256,18 +256,18 @@ module _ (files : Files) (upto : ℕ) (store : GatheredFiles) (is : AreGatheredO
 
       fits : Fits (recovered files named.names)
       fits = record { held = held; holds = holds } where
-        slot_same : (o : Option Row) → option_map (λ (r : Row). r.slot) (option_map (filled files.base files.blocks (log_records files.batches)) o) ≡ option_map (λ (r : Row). r.slot) o
+        slot_same : (o : Option Row) → option_map (λ (r : Row). r.slot) (option_map (filled files.base files.blocks (records_of_batches files.batches)) o) ≡ option_map (λ (r : Row). r.slot) o
         slot_same None = refl
         slot_same (Some r) = refl
 
-        held : (s : ℕ) (k : List ℕ) → named.names.holder s ≡ Some k → option_map (λ (r : Row). r.slot) (option_map (filled files.base files.blocks (log_records files.batches)) (named.names.row k)) ≡ Some s
+        held : (s : ℕ) (k : List ℕ) → named.names.holder s ≡ Some k → option_map (λ (r : Row). r.slot) (option_map (filled files.base files.blocks (records_of_batches files.batches)) (named.names.row k)) ≡ Some s
         held s k e = slot_same (named.names.row k) ∙ read.held s k e
 
-        holds : (k : List ℕ) (r : Row) → option_map (filled files.base files.blocks (log_records files.batches)) (named.names.row k) ≡ Some r → named.names.holder r.slot ≡ Some k
+        holds : (k : List ℕ) (r : Row) → option_map (filled files.base files.blocks (records_of_batches files.batches)) (named.names.row k) ≡ Some r → named.names.holder r.slot ≡ Some k
         holds k r e = at (named.names.row k) refl e where
-          at : (o : Option Row) → named.names.row k ≡ o → option_map (filled files.base files.blocks (log_records files.batches)) o ≡ Some r → named.names.holder r.slot ≡ Some k
+          at : (o : Option Row) → named.names.row k ≡ o → option_map (filled files.base files.blocks (records_of_batches files.batches)) o ≡ Some r → named.names.holder r.slot ≡ Some k
           at None e' is' = absurd (let both : None ≡ Some r = is' in cc)
-          at (Some x) e' is' = let it : filled files.base files.blocks (log_records files.batches) x ≡ r = cc in
+          at (Some x) e' is' = let it : filled files.base files.blocks (records_of_batches files.batches) x ≡ r = cc in
               subst (λ (y : Row). named.names.holder y.slot ≡ Some k) it (read.holds k x e')
 
       rise_ok : rows_rise files (rows_by_slot named.names) ≡ Ok tt
@@ -291,9 +291,9 @@ module _ (files : Files) (upto : ℕ) (store : GatheredFiles) (is : AreGatheredO
         all = subst (AllByRecursion (λ (x : Row). x.slot < slots)) (sym named.rows_are) (all_mapped (λ (x : Row). x.slot < slots) named_row rows
             (below_all rows (subst (λ n. n ≤ slots) (ap (λ l. greatest 0 (map (λ x. x.1.slot + 1) l)) (named.keyed files) ∙ ap (greatest 0) (slot_map rows)) le)))
 
-        at : (o : Option Row) → named.names.row k ≡ o → option_map (filled files.base files.blocks (log_records files.batches)) o ≡ Some r → r.slot < slots
+        at : (o : Option Row) → named.names.row k ≡ o → option_map (filled files.base files.blocks (records_of_batches files.batches)) o ≡ Some r → r.slot < slots
         at None e' is' = absurd (let both : None ≡ Some r = is' in cc)
-        at (Some x) e' is' = let it : filled files.base files.blocks (log_records files.batches) x ≡ r = cc in
+        at (Some x) e' is' = let it : filled files.base files.blocks (records_of_batches files.batches) x ≡ r = cc in
             subst (λ (y : Row). y.slot < slots) it (all_held named.names (λ (y : Row). y.slot < slots) 0 slots_of_a_shard all x.slot (omega arith) (let h = each_low k x e' in omega arith) x
             (ap (λ h. held_by h) (read.holds k x e') ∙ e')) where
               held_by : Option (List ℕ) → Option Row
@@ -322,24 +322,24 @@ module _ (files : Files) (upto : ℕ) (store : GatheredFiles) (is : AreGatheredO
             let b : nat_lt (2 ^ 62) (next_of files) ≡ false = (let l = not_worn in let e = next_are in grind arith) in
             rw (a, b) refl
 
-        floors : r.floor ≡ greatest (base_end files.base.window) (filter_map floor_end (log_records files.batches))
+        floors : r.floor ≡ greatest (base_end files.base.window) (filter_map floor_end (records_of_batches files.batches))
         floors = floor_same ∙ is.logs_are.floor
 
-        start_same : recovered_start slots r ≡ start_of slots (recovered files named.names)
+        start_same : recovered_start slots r ≡ start_of_map slots (recovered files named.names)
         start_same =
             let a = floors in
             let b : r.next ≡ next_of files = next_same ∙ next_are in
-            let c : map keyed_row r.rows.items ≡ rows_of (recovered files named.names) = ap (map keyed_row) rows_same ∙ sym rows_are in
+            let c : map keyed_row r.rows.items ≡ rows_of_map (recovered files named.names) = ap (map keyed_row) rows_same ∙ sym rows_are in
             cc
 
         above : (n : ℕ) (xs : List ℕ) → n ≤ greatest n xs
         above n [] = omega arith
         above n (x ∷ xs) = let h = above n xs in omega arith
 
-        base_low : base_end files.base.window ≤ greatest (base_end files.base.window) (filter_map floor_end (log_records files.batches))
-        base_low = above (base_end files.base.window) (filter_map floor_end (log_records files.batches))
+        base_low : base_end files.base.window ≤ greatest (base_end files.base.window) (filter_map floor_end (records_of_batches files.batches))
+        base_low = above (base_end files.base.window) (filter_map floor_end (records_of_batches files.batches))
 
         upto_low : files.base.upto < next_of files
         upto_low =
             let a = above files.base.upto (map (λ b. b.last) files.batches) in
-            let b = above (greatest files.base.upto (map (λ b. b.last) files.batches)) (filter_map (λ r. number_in r.it) files.keys) in omega arith
+            let b = above (greatest files.base.upto (map (λ b. b.last) files.batches)) (filter_map (λ r. change_number_in r.it) files.keys) in omega arith

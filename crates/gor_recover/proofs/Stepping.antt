@@ -10,7 +10,7 @@ use Rattle.gor_recover.specs.declared.gather.Gathered.{Gathered}
 use Rattle.gor_recover.specs.declared.gather.Spot.{Spot}
 use Rattle.gor_image.specs.Records.{BlockRow}
 use Rattle.gor_image.specs.Recovery.{is_above}
-use Rattle.gor_recover.specs.Gathering.{has_uid, with_put, with_point, with_row, with_points, row_spot, with_seal, with_end}
+use Rattle.gor_recover.specs.Gathering.{has_uid, with_gathered_put, with_gathered_point, with_row, with_points, row_spot, with_seal, with_end}
 use Rattle.gor_recover.specs.Placing.{IsPlaceOf, ArePlaced}
 
 -- other series stay as they are
@@ -71,15 +71,15 @@ other_test g uid apart = by (eqb_tells g.uid uid) where
   by (inl same) = absurd (apart same.1)
   by (inr other) = other.0
 
-pub put_other : (base : Option ℕ) (spot : Spot) (uid : ℕ) (p : Point) → IsStepOf uid (with_put base spot uid p)
+pub put_other : (base : Option ℕ) (spot : Spot) (uid : ℕ) (p : Point) → IsStepOf uid (with_gathered_put base spot uid p)
 put_other base spot uid p g apart = let e = other_test g uid apart in rw e refl
 
-pub put_own : (base : Option ℕ) (spot : Spot) (uid : ℕ) (p : Point) (g : Gathered) → g.uid ≡ uid → is_above base (window p.time) ≡ true → with_put base spot uid p g ≡ with_point spot g p
+pub put_own : (base : Option ℕ) (spot : Spot) (uid : ℕ) (p : Point) (g : Gathered) → g.uid ≡ uid → is_above base (window p.time) ≡ true → with_gathered_put base spot uid p g ≡ with_gathered_point spot g p
 put_own base spot uid p g same above = let e : nat_eq g.uid uid ≡ true = eq-eqb g.uid uid same in rw (e, above) refl
 
-pub put_below : (base : Option ℕ) (spot : Spot) (uid : ℕ) (p : Point) (g : Gathered) → is_above base (window p.time) ≡ false → with_put base spot uid p g ≡ g
+pub put_below : (base : Option ℕ) (spot : Spot) (uid : ℕ) (p : Point) (g : Gathered) → is_above base (window p.time) ≡ false → with_gathered_put base spot uid p g ≡ g
 put_below base spot uid p g below = rw below (by (nat_eq g.uid uid)) where
-  by : (b : Bool) → (if b && false then with_point spot g p else g) ≡ g
+  by : (b : Bool) → (if b && false then with_gathered_point spot g p else g) ≡ g
   by true = refl
   by false = refl
 

@@ -19,16 +19,16 @@ use Rattle.gor_image.specs.declared.fault.ImageFault.{ImageFault}
 use Rattle.gor_image.specs.declared.fault.ImageFault.TheVariants.{Damage}
 use Rattle.gor_recover.specs.declared.gather.Gathered.{Gathered}
 use Rattle.gor_recover.specs.declared.gather.Spot.{Spot}
-use Rattle.gor_image.specs.Records.{Placed, Batch, BlockRow, Base, Files}
-use Rattle.gor_image.specs.Recovery.{is_above, seal_end, log_records}
+use Rattle.gor_image.specs.Records.{Placed, BatchInLog, BlockRow, Base, Files}
+use Rattle.gor_image.specs.Recovery.{is_above, seal_end, records_of_batches}
 use Rattle.gor_image.specs.Grammars.{and_then}
-use Rattle.gor_image.specs.Images.{Found, found_rise, found_of, block_found, put_found}
-use Rattle.gor_recover.specs.Gathering.{IsBegun, has_uid, HasSeries, IsGathered, rise_of, first_spot, spot_at, with_point, with_points, with_row, row_spot, with_log, with_end, each_with_row, each_with_rows, each_with_record, each_with_batch, each_with_batches}
+use Rattle.gor_image.specs.Images.{FoundPoint, found_rise, found_of, block_found, put_found}
+use Rattle.gor_recover.specs.Gathering.{HasGatheredNothing, has_uid, SeriesIsThere, IsGathered, rise_of, first_spot, spot_at, with_gathered_point, with_points, with_row, row_spot, with_log, with_end, each_with_row, each_with_rows, each_with_record, each_with_batch, each_with_batches}
 use Rattle.gor_image.proofs.Filled.{greatest_append}
 use Rattle.gor_image.proofs.Rising.{found_points}
 
 -- what was found of a series in order, and the ends of its seals
-record Tells (founds : List Found) (ends : List ℕ) (g : Gathered) : Type 0 where
+record Tells (founds : List FoundPoint) (ends : List ℕ) (g : Gathered) : Type 0 where
   points : g.points ≡ map (λ x. x.point) founds
   end : g.end ≡ greatest 0 ends
   rise : found_rise None founds ≡ rise_of g.wrong
@@ -39,11 +39,11 @@ abbrev refuse : Bool → Spot → Result ⊤ ImageFault
 refuse true spot = Ok tt
 refuse false spot = Err (Damage spot.file spot.at Order)
 
-abbrev last_time : Option ℕ → List Found → Option ℕ
+abbrev last_time : Option ℕ → List FoundPoint → Option ℕ
 last_time last [] = last
 last_time last (x ∷ xs) = last_time (Some x.point.time) xs
 
-rise_more : (last : Option ℕ) (xs : List Found) (x : Found) (spot : Spot) → x.file ≡ spot.file → x.at ≡ spot.at
+rise_more : (last : Option ℕ) (xs : List FoundPoint) (x : FoundPoint) (spot : Spot) → x.file ≡ spot.file → x.at ≡ spot.at
     → found_rise last (xs ++ x ∷ []) ≡ and_then (found_rise last xs) (λ t. refuse (is_above (last_time last xs) x.point.time) spot)
 rise_more last [] x spot file at = by (is_above last x.point.time) where
   by : (b : Bool) → (if b then Ok tt else Err (Damage x.file x.at Order)) ≡ refuse b spot
@@ -56,7 +56,7 @@ rise_more last (y ∷ ys) x spot file at = by (is_above last y.point.time) (rise
   by true e = e
   by false e = refl
 
-last_is : (last : Option ℕ) (xs : List Found) → last_time last xs ≡ option_or (option_map (λ q. q.time) (last_of (map (λ x. x.point) xs))) last
+last_is : (last : Option ℕ) (xs : List FoundPoint) → last_time last xs ≡ option_or (option_map (λ q. q.time) (last_of (map (λ x. x.point) xs))) last
 last_is last [] = refl
 last_is last (x ∷ []) = refl
 last_is last (x ∷ y ∷ ys) = last_is (Some x.point.time) (y ∷ ys)
@@ -66,10 +66,10 @@ first_refusal None true spot = refl
 first_refusal None false spot = refl
 first_refusal (Some s) b spot = refl
 
-tell_point : (founds : List Found) (ends : List ℕ) (g : Gathered) (spot : Spot) (p : Point) → Tells founds ends g
-    → Tells (founds ++ record { file = spot.file; at = spot.at; point = p } ∷ []) ends (with_point spot g p)
+tell_point : (founds : List FoundPoint) (ends : List ℕ) (g : Gathered) (spot : Spot) (p : Point) → Tells founds ends g
+    → Tells (founds ++ record { file = spot.file; at = spot.at; point = p } ∷ []) ends (with_gathered_point spot g p)
 tell_point founds ends g spot p tells = record {
-  points = ap (λ l. l ++ p ∷ []) tells.points ∙ sym (map-append (λ (x : Found). x.point) founds (record { file = spot.file; at = spot.at; point = p } ∷ []));
+  points = ap (λ l. l ++ p ∷ []) tells.points ∙ sym (map-append (λ (x : FoundPoint). x.point) founds (record { file = spot.file; at = spot.at; point = p } ∷ []));
   end = tells.end;
   rise = rise_more None founds (record { file = spot.file; at = spot.at; point = p }) spot refl refl
       ∙ (ap (λ o. and_then (found_rise None founds) (λ t. refuse (is_above o p.time) spot)) same
@@ -83,20 +83,20 @@ tell_point founds ends g spot p tells = record {
   same : last_time None founds ≡ option_map (λ q. q.time) (last_of g.points)
   same = last_is None founds ∙ (or_none (option_map (λ q. q.time) (last_of (map (λ x. x.point) founds))) ∙ ap (λ l. option_map (λ (q : Point). q.time) (last_of l)) (sym tells.points))
 
-tell_points : (founds : List Found) (ends : List ℕ) (g : Gathered) (spot : Spot) (points : List Point) → Tells founds ends g
+tell_points : (founds : List FoundPoint) (ends : List ℕ) (g : Gathered) (spot : Spot) (points : List Point) → Tells founds ends g
     → Tells (founds ++ map (λ p. record { file = spot.file; at = spot.at; point = p }) points) ends (with_points spot g points)
 tell_points founds ends g spot [] tells = subst (λ l. Tells l ends g) (sym (append-nil founds)) tells
 tell_points founds ends g spot (p ∷ ps) tells =
-    subst (λ l. Tells l ends (with_points spot (with_point spot g p) ps)) (append_assoc founds (record { file = spot.file; at = spot.at; point = p } ∷ []) (map (λ p. record { file = spot.file; at = spot.at; point = p }) ps))
-    (tell_points (founds ++ record { file = spot.file; at = spot.at; point = p } ∷ []) ends (with_point spot g p) spot ps (tell_point founds ends g spot p tells))
+    subst (λ l. Tells l ends (with_points spot (with_gathered_point spot g p) ps)) (append_assoc founds (record { file = spot.file; at = spot.at; point = p } ∷ []) (map (λ p. record { file = spot.file; at = spot.at; point = p }) ps))
+    (tell_points (founds ++ record { file = spot.file; at = spot.at; point = p } ∷ []) ends (with_gathered_point spot g p) spot ps (tell_point founds ends g spot p tells))
 
-tell_row : (founds : List Found) (ends : List ℕ) (g : Gathered) (row : BlockRow) → Tells founds ends g → Tells (founds ++ block_found g.uid row) ends (with_row row g)
+tell_row : (founds : List FoundPoint) (ends : List ℕ) (g : Gathered) (row : BlockRow) → Tells founds ends g → Tells (founds ++ block_found g.uid row) ends (with_row row g)
 tell_row founds ends g row tells = by (nat_eq g.uid row.uid) where
   by : (b : Bool) → Tells (founds ++ (if b then map (λ p. record { file = Block row.file; at = row.at; point = p }) row.points else [])) ends (if b then with_points (row_spot row) g row.points else g)
   by true = tell_points founds ends g (row_spot row) row.points tells
   by false = subst (λ l. Tells l ends g) (sym (append-nil founds)) tells
 
-tell_log : (base : Base) (log : ℕ) (founds : List Found) (ends : List ℕ) (g : Gathered) (r : Placed LogRecord) → Tells founds ends g
+tell_log : (base : Base) (log : ℕ) (founds : List FoundPoint) (ends : List ℕ) (g : Gathered) (r : Placed LogRecord) → Tells founds ends g
     → Tells (founds ++ cons_option (put_found base g.uid log r) []) (ends ++ cons_option (seal_end g.uid r.it) []) (with_log base.window log r.at r.it g)
 tell_log base log founds ends g r tells = at r.at r.it where
   nothing : Tells (founds ++ []) (ends ++ []) g
@@ -116,21 +116,21 @@ tell_log base log founds ends g r tells = at r.at r.it where
     spot : Spot
     spot = record { file = Log log; at = n }
 
-    by : (b : Bool) → Tells (founds ++ cons_option (option_map (λ p. record { file = Log log; at = n; point = p }) (if b then Some (record { time = t; word = w }) else None)) []) (ends ++ []) (if b then with_point spot g (record { time = t; word = w }) else g)
+    by : (b : Bool) → Tells (founds ++ cons_option (option_map (λ p. record { file = Log log; at = n; point = p }) (if b then Some (record { time = t; word = w }) else None)) []) (ends ++ []) (if b then with_gathered_point spot g (record { time = t; word = w }) else g)
     by false = nothing
-    by true = subst (λ l. Tells (founds ++ record { file = Log log; at = n; point = record { time = t; word = w } } ∷ []) l (with_point spot g (record { time = t; word = w }))) (sym (append-nil ends)) (tell_point founds ends g spot (record { time = t; word = w }) tells)
+    by true = subst (λ l. Tells (founds ++ record { file = Log log; at = n; point = record { time = t; word = w } } ∷ []) l (with_gathered_point spot g (record { time = t; word = w }))) (sym (append-nil ends)) (tell_point founds ends g spot (record { time = t; word = w }) tells)
 
 -- ---- all of them
 
-abbrev AllTell : (ℕ → List Found) → (ℕ → List ℕ) → List Gathered → Type 0
+abbrev AllTell : (ℕ → List FoundPoint) → (ℕ → List ℕ) → List Gathered → Type 0
 AllTell F E series = AllByRecursion (λ g. Tells (F g.uid) (E g.uid) g) series
 
-all_map : (F G : ℕ → List Found) (E H : ℕ → List ℕ) (step : Gathered → Gathered) → ((g : Gathered) → (step g).uid ≡ g.uid)
+all_map : (F G : ℕ → List FoundPoint) (E H : ℕ → List ℕ) (step : Gathered → Gathered) → ((g : Gathered) → (step g).uid ≡ g.uid)
     → ((g : Gathered) → Tells (F g.uid) (E g.uid) g → Tells (G g.uid) (H g.uid) (step g)) → (series : List Gathered) → AllTell F E series → AllTell G H (map step series)
 all_map F G E H step same one [] all = tt
 all_map F G E H step same one (g ∷ series) all = (subst (λ u. Tells (G u) (H u) (step g)) (sym (same g)) (one g all.0), all_map F G E H step same one series all.1)
 
-all_same : (F G : ℕ → List Found) (E H : ℕ → List ℕ) → ((u : ℕ) → F u ≡ G u) → ((u : ℕ) → E u ≡ H u) → (series : List Gathered) → AllTell F E series → AllTell G H series
+all_same : (F G : ℕ → List FoundPoint) (E H : ℕ → List ℕ) → ((u : ℕ) → F u ≡ G u) → ((u : ℕ) → E u ≡ H u) → (series : List Gathered) → AllTell F E series → AllTell G H series
 all_same F G E H founds ends series all =
     all_weaker (λ (g : Gathered). Tells (F g.uid) (E g.uid) g) (λ (g : Gathered). Tells (G g.uid) (H g.uid) g) series
     (λ g h. subst (λ l. Tells l (H g.uid) g) (founds g.uid) (subst (λ l. Tells (F g.uid) l g) (ends g.uid) h)) all
@@ -139,7 +139,7 @@ all_same F G E H founds ends series all =
 
 points_uid : (spot : Spot) (g : Gathered) (points : List Point) → (with_points spot g points).uid ≡ g.uid
 points_uid spot g [] = refl
-points_uid spot g (p ∷ ps) = points_uid spot (with_point spot g p) ps
+points_uid spot g (p ∷ ps) = points_uid spot (with_gathered_point spot g p) ps
 
 row_uid : (row : BlockRow) (g : Gathered) → (with_row row g).uid ≡ g.uid
 row_uid row g = by (nat_eq g.uid row.uid) where
@@ -149,7 +149,7 @@ row_uid row g = by (nat_eq g.uid row.uid) where
 
 log_uid : (base : Option ℕ) (log at : ℕ) (r : LogRecord) (g : Gathered) → (with_log base log at r g).uid ≡ g.uid
 log_uid base log at (Put u t w) g = by (nat_eq g.uid u && is_above base (window t)) where
-  by : (b : Bool) → (if b then with_point (record { file = Log log; at = at }) g (record { time = t; word = w }) else g).uid ≡ g.uid
+  by : (b : Bool) → (if b then with_gathered_point (record { file = Log log; at = at }) g (record { time = t; word = w }) else g).uid ≡ g.uid
   by true = refl
   by false = refl
 log_uid base log at (Seal u w) g = by (nat_eq g.uid u) where
@@ -160,7 +160,7 @@ log_uid base log at (Floor w) g = refl
 
 -- ---- rows, records and batches more
 
-rows_tell : (F : ℕ → List Found) (E : ℕ → List ℕ) (rows : List BlockRow) (series : List Gathered) → AllTell F E series
+rows_tell : (F : ℕ → List FoundPoint) (E : ℕ → List ℕ) (rows : List BlockRow) (series : List Gathered) → AllTell F E series
     → AllTell (λ u. F u ++ flat_map (block_found u) rows) E (each_with_rows series rows)
 rows_tell F E [] series all = all_same F (λ u. F u ++ []) E E (λ u. sym (append-nil (F u))) (λ u. refl) series all
 rows_tell F E (row ∷ rows) series all =
@@ -173,7 +173,7 @@ cons_is : {A : Type 0} (o : Option A) (xs : List A) → cons_option o [] ++ xs �
 cons_is None xs = refl
 cons_is (Some x) xs = refl
 
-records_tell : (base : Base) (log : ℕ) (F : ℕ → List Found) (E : ℕ → List ℕ) (rs : List (Placed LogRecord)) (series : List Gathered) → AllTell F E series
+records_tell : (base : Base) (log : ℕ) (F : ℕ → List FoundPoint) (E : ℕ → List ℕ) (rs : List (Placed LogRecord)) (series : List Gathered) → AllTell F E series
     → AllTell (λ u. F u ++ filter_map (put_found base u log) rs) (λ u. E u ++ filter_map (seal_end u) (map (λ r. r.it) rs)) (fold (each_with_record base.window log) series rs)
 records_tell base log F E [] series all = all_same F (λ u. F u ++ []) E (λ u. E u ++ []) (λ u. sym (append-nil (F u))) (λ u. sym (append-nil (E u))) series all
 records_tell base log F E (r ∷ rs) series all =
@@ -185,26 +185,26 @@ records_tell base log F E (r ∷ rs) series all =
     (records_tell base log (λ u. F u ++ cons_option (put_found base u log r) []) (λ u. E u ++ cons_option (seal_end u r.it) []) rs (each_with_record base.window log series r)
     (all_map F (λ u. F u ++ cons_option (put_found base u log r) []) E (λ u. E u ++ cons_option (seal_end u r.it) []) (with_log base.window log r.at r.it) (log_uid base.window log r.at r.it) (λ g h. tell_log base log (F g.uid) (E g.uid) g r h) series all))
 
-batches_tell : (base : Base) (F : ℕ → List Found) (E : ℕ → List ℕ) (batches : List Batch) (series : List Gathered) → AllTell F E series
-    → AllTell (λ u. F u ++ flat_map (λ b. filter_map (put_found base u b.log) b.records) batches) (λ u. E u ++ filter_map (seal_end u) (log_records batches)) (each_with_batches base.window series batches)
+batches_tell : (base : Base) (F : ℕ → List FoundPoint) (E : ℕ → List ℕ) (batches : List BatchInLog) (series : List Gathered) → AllTell F E series
+    → AllTell (λ u. F u ++ flat_map (λ b. filter_map (put_found base u b.log) b.records) batches) (λ u. E u ++ filter_map (seal_end u) (records_of_batches batches)) (each_with_batches base.window series batches)
 batches_tell base F E [] series all = all_same F (λ u. F u ++ []) E (λ u. E u ++ []) (λ u. sym (append-nil (F u))) (λ u. sym (append-nil (E u))) series all
 batches_tell base F E (b ∷ batches) series all =
     all_same (λ u. (F u ++ filter_map (put_found base u b.log) b.records) ++ flat_map (λ b. filter_map (put_found base u b.log) b.records) batches) (λ u. F u ++ flat_map (λ b. filter_map (put_found base u b.log) b.records) (b ∷ batches))
-    (λ u. (E u ++ filter_map (seal_end u) (map (λ r. r.it) b.records)) ++ filter_map (seal_end u) (log_records batches)) (λ u. E u ++ filter_map (seal_end u) (log_records (b ∷ batches)))
+    (λ u. (E u ++ filter_map (seal_end u) (map (λ r. r.it) b.records)) ++ filter_map (seal_end u) (records_of_batches batches)) (λ u. E u ++ filter_map (seal_end u) (records_of_batches (b ∷ batches)))
     (λ u. append_assoc (F u) (filter_map (put_found base u b.log) b.records) (flat_map (λ b. filter_map (put_found base u b.log) b.records) batches))
-    (λ u. append_assoc (E u) (filter_map (seal_end u) (map (λ r. r.it) b.records)) (filter_map (seal_end u) (log_records batches)) ∙ ap (λ l. E u ++ l) (sym (filter_map-append (seal_end u) (map (λ r. r.it) b.records) (log_records batches))))
+    (λ u. append_assoc (E u) (filter_map (seal_end u) (map (λ r. r.it) b.records)) (filter_map (seal_end u) (records_of_batches batches)) ∙ ap (λ l. E u ++ l) (sym (filter_map-append (seal_end u) (map (λ r. r.it) b.records) (records_of_batches batches))))
     (each_with_batches base.window (each_with_batch base.window series b) batches)
     (batches_tell base (λ u. F u ++ filter_map (put_found base u b.log) b.records) (λ u. E u ++ filter_map (seal_end u) (map (λ r. r.it) b.records)) batches (each_with_batch base.window series b)
     (records_tell base b.log F E b.records series all))
 
-begun_tell : (series : List Gathered) → AllByRecursion IsBegun series → AllTell (λ u. []) (λ u. []) series
-begun_tell series all = all_weaker IsBegun (λ (g : Gathered). Tells [] [] g) series (λ g h. record { points = h.points; end = h.end; rise = ap rise_of (sym h.wrong) }) all
+begun_tell : (series : List Gathered) → AllByRecursion HasGatheredNothing series → AllTell (λ u. []) (λ u. []) series
+begun_tell series all = all_weaker HasGatheredNothing (λ (g : Gathered). Tells [] [] g) series (λ g h. record { points = h.points; end = h.end; rise = ap rise_of (sym h.wrong) }) all
 
 -- what is gathered of the rows and the batches of files stands in these files
-pub all_gathered : (files : Files) (series : List Gathered) → AllByRecursion IsBegun series
+pub all_gathered : (files : Files) (series : List Gathered) → AllByRecursion HasGatheredNothing series
     → AllByRecursion (IsGathered files) (each_with_batches files.base.window (each_with_rows series files.blocks) files.batches)
 all_gathered files series begun =
-    all_weaker (λ (g : Gathered). Tells (found_of files g.uid) (filter_map (seal_end g.uid) (log_records files.batches)) g) (IsGathered files) (each_with_batches files.base.window (each_with_rows series files.blocks) files.batches)
+    all_weaker (λ (g : Gathered). Tells (found_of files g.uid) (filter_map (seal_end g.uid) (records_of_batches files.batches)) g) (IsGathered files) (each_with_batches files.base.window (each_with_rows series files.blocks) files.batches)
     (λ g h. record { points = h.points ∙ found_points files g.uid; end = h.end; rise = h.rise })
     (batches_tell files.base (λ u. flat_map (block_found u) files.blocks) (λ u. []) files.batches (each_with_rows series files.blocks)
     (rows_tell (λ u. []) (λ u. []) files.blocks series (begun_tell series begun)))
@@ -223,11 +223,11 @@ records_kept : (base : Option ℕ) (log uid : ℕ) (rs : List (Placed LogRecord)
 records_kept base log uid [] series = refl
 records_kept base log uid (r ∷ rs) series = records_kept base log uid rs (each_with_record base log series r) ∙ any_kept (with_log base log r.at r.it) uid (log_uid base log r.at r.it) series
 
-batches_kept : (base : Option ℕ) (uid : ℕ) (batches : List Batch) (series : List Gathered) → list_any (has_uid uid) (each_with_batches base series batches) ≡ list_any (has_uid uid) series
+batches_kept : (base : Option ℕ) (uid : ℕ) (batches : List BatchInLog) (series : List Gathered) → list_any (has_uid uid) (each_with_batches base series batches) ≡ list_any (has_uid uid) series
 batches_kept base uid [] series = refl
 batches_kept base uid (b ∷ batches) series = batches_kept base uid batches (each_with_batch base series b) ∙ records_kept base b.log uid b.records series
 
-pub still_there : (base : Option ℕ) (rows : List BlockRow) (batches : List Batch) (series : List Gathered) (k : KeyRecord) → HasSeries series k → HasSeries (each_with_batches base (each_with_rows series rows) batches) k
+pub still_there : (base : Option ℕ) (rows : List BlockRow) (batches : List BatchInLog) (series : List Gathered) (k : KeyRecord) → SeriesIsThere series k → SeriesIsThere (each_with_batches base (each_with_rows series rows) batches) k
 still_there base rows batches series (Create number slot floor name) has = batches_kept base number batches (each_with_rows series rows) ∙ (rows_kept number rows series ∙ has)
 still_there base rows batches series (Live uid slot floor name) has = batches_kept base uid batches (each_with_rows series rows) ∙ (rows_kept uid rows series ∙ has)
 still_there base rows batches series (Delete number slot) has = tt

@@ -8,7 +8,7 @@ use Rattle.gor_recover.specs.declared.recovered.OpenFault.{OpenFault}
 use Rattle.gor_recover.specs.declared.recovered.OpenFault.TheVariants as refused
 
 -- these are the bodies of a file that is whole
-pub record AreWhole (walk : Walk) (bodies_read : List (ℕ × List ℕ)) : Type 0 where
+pub record AreAllBodies (walk : Walk) (bodies_read : List (ℕ × List ℕ)) : Type 0 where
   pub whole : walk.whole ≡ true
   pub bodies : bodies_read ≡ walk.bodies
 

@@ -6,7 +6,7 @@ use Rattle.gor_recover.specs.declared.recovered.OpenFault.{OpenFault}
 use Rattle.gor_recover.specs.declared.recovered.OpenFault.TheVariants as refused
 use Rattle.gor_recover.specs.declared.file_fault.FileFault.{FileFault}
 use Rattle.gor_recover.specs.declared.file_fault.FileFault.TheVariants.{Damaged, NoMemory}
-use Rattle.gor_image.specs.Grammars.{Reads, wrong}
+use Rattle.gor_image.specs.Grammars.{Reads, damage_at}
 
 -- a fault of the bytes of a file, of the file
 abbrev pub in_its_file : FileId → FileFault → OpenFault
@@ -14,10 +14,10 @@ in_its_file file (Damaged at kind) = refused.Image (image.Damage file at kind)
 in_its_file file NoMemory = refused.NoMemory
 
 -- a fault of the reader is the damage that reading meets, unless memory is wanting
-abbrev pub Fails : {Y : Type 0} → FileFault → Reads Y → Type 0
-Fails (Damaged at kind) read = read ≡ wrong at kind
-Fails NoMemory read = ⊤
+abbrev pub MeetsDamage : {Y : Type 0} → FileFault → Reads Y → Type 0
+MeetsDamage (Damaged at kind) read = read ≡ damage_at at kind
+MeetsDamage NoMemory read = ⊤
 
-abbrev pub Gives : {X Y : Type 0} → (X → Y) → Result X FileFault → Reads Y → Type 0
-Gives view (Ok x) read = read ≡ Ok (view x)
-Gives view (Err e) read = Fails e read
+abbrev pub GivesFile : {X Y : Type 0} → (X → Y) → Result X FileFault → Reads Y → Type 0
+GivesFile view (Ok x) read = read ≡ Ok (view x)
+GivesFile view (Err e) read = MeetsDamage e read

@@ -14,8 +14,8 @@ use Rattle.gor_image.specs.declared.fault.ImageFault.{ImageFault}
 use Rattle.gor_image.specs.declared.fault.ImageFault.TheVariants as fault
 use Rattle.gor_recover.specs.declared.gather.Spot.{Spot}
 use Rattle.gor_recover.specs.declared.gather.Gathered.{Gathered}
-use Rattle.gor_image.specs.Records.{Placed, Batch, BlockRow, Files}
-use Rattle.gor_image.specs.Recovery.{is_above, points_of, seal_end, log_records}
+use Rattle.gor_image.specs.Records.{Placed, BatchInLog, BlockRow, Files}
+use Rattle.gor_image.specs.Recovery.{is_above, points_of_series, seal_end, records_of_batches}
 use Rattle.gor_image.specs.Images.{found_of, found_rise}
 
 -- ---- what one series has of a part
@@ -29,14 +29,14 @@ abbrev pub first_spot : Option Spot → Option Spot → Option Spot
 first_spot (Some spot) next = Some spot
 first_spot None next = next
 
-abbrev pub with_point : Spot → Gathered → Point → Gathered
-with_point spot g p = record g {
+abbrev pub with_gathered_point : Spot → Gathered → Point → Gathered
+with_gathered_point spot g p = record g {
   points = g.points ++ p ∷ [];
   wrong = first_spot g.wrong (spot_at (is_above (option_map (λ q. q.time) (last_of g.points)) p.time) spot);
 }
 
 abbrev pub with_points : Spot → Gathered → List Point → Gathered
-with_points spot g points = fold (with_point spot) g points
+with_points spot g points = fold (with_gathered_point spot) g points
 
 abbrev pub row_spot : BlockRow → Spot
 row_spot row = record { file = files.Block row.file; at = row.at }
@@ -47,14 +47,14 @@ with_row row g = if nat_eq g.uid row.uid then with_points (row_spot row) g row.p
 abbrev pub with_end : ℕ → Gathered → Gathered
 with_end end g = record g { end = max g.end end }
 
-abbrev pub with_put : Option ℕ → Spot → ℕ → Point → Gathered → Gathered
-with_put base spot uid p g = if nat_eq g.uid uid && is_above base (window p.time) then with_point spot g p else g
+abbrev pub with_gathered_put : Option ℕ → Spot → ℕ → Point → Gathered → Gathered
+with_gathered_put base spot uid p g = if nat_eq g.uid uid && is_above base (window p.time) then with_gathered_point spot g p else g
 
 abbrev pub with_seal : ℕ → ℕ → Gathered → Gathered
 with_seal uid w g = if nat_eq g.uid uid then with_end (window_end w) g else g
 
 abbrev pub with_log : Option ℕ → ℕ → ℕ → LogRecord → Gathered → Gathered
-with_log base log at (Put uid time word) g = with_put base (record { file = files.Log log; at = at }) uid (record { time = time; word = word }) g
+with_log base log at (Put uid time word) g = with_gathered_put base (record { file = files.Log log; at = at }) uid (record { time = time; word = word }) g
 with_log base log at (Seal uid w) g = with_seal uid w g
 with_log base log at (Floor w) g = g
 
@@ -69,10 +69,10 @@ each_with_rows series rows = fold each_with_row series rows
 abbrev pub each_with_record : Option ℕ → ℕ → List Gathered → Placed LogRecord → List Gathered
 each_with_record base log series r = map (with_log base log r.at r.it) series
 
-abbrev pub each_with_batch : Option ℕ → List Gathered → Batch → List Gathered
+abbrev pub each_with_batch : Option ℕ → List Gathered → BatchInLog → List Gathered
 each_with_batch base series batch = fold (each_with_record base batch.log) series batch.records
 
-abbrev pub each_with_batches : Option ℕ → List Gathered → List Batch → List Gathered
+abbrev pub each_with_batches : Option ℕ → List Gathered → List BatchInLog → List Gathered
 each_with_batches base series batches = fold (each_with_batch base) series batches
 
 -- ---- series by their uids
@@ -81,16 +81,16 @@ abbrev pub has_uid : ℕ → Gathered → Bool
 has_uid uid g = nat_eq uid g.uid
 
 -- nothing was gathered yet
-pub record IsBegun (g : Gathered) : Type 0 where
+pub record HasGatheredNothing (g : Gathered) : Type 0 where
   pub points : g.points ≡ []
   pub end : g.end ≡ 0
   pub wrong : g.wrong ≡ None
 
 -- the series that a record of a key list may begin is there
-abbrev pub HasSeries : List Gathered → KeyRecord → Type 0
-HasSeries series (Create number slot floor name) = IsTrue (list_any (has_uid number) series)
-HasSeries series (Live uid slot floor name) = IsTrue (list_any (has_uid uid) series)
-HasSeries series (Delete number slot) = ⊤
+abbrev pub SeriesIsThere : List Gathered → KeyRecord → Type 0
+SeriesIsThere series (Create number slot floor name) = IsTrue (list_any (has_uid number) series)
+SeriesIsThere series (Live uid slot floor name) = IsTrue (list_any (has_uid uid) series)
+SeriesIsThere series (Delete number slot) = ⊤
 
 -- ---- what they mean
 
@@ -101,6 +101,6 @@ rise_of (Some spot) = Err (fault.Damage spot.file spot.at Order)
 
 -- what stands in these files of a series: its points, the greatest end of its seals, and where its times do not rise
 pub record IsGathered (files : Files) (g : Gathered) : Type 0 where
-  pub points : g.points ≡ points_of files.base files.blocks (log_records files.batches) g.uid
-  pub end : g.end ≡ greatest 0 (filter_map (seal_end g.uid) (log_records files.batches))
+  pub points : g.points ≡ points_of_series files.base files.blocks (records_of_batches files.batches) g.uid
+  pub end : g.end ≡ greatest 0 (filter_map (seal_end g.uid) (records_of_batches files.batches))
   pub rise : found_rise None (found_of files g.uid) ≡ rise_of g.wrong

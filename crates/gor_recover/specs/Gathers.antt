@@ -12,13 +12,13 @@ use Rattle.gor_recover.specs.declared.recovered.Recovered.{Recovered}
 use Rattle.gor_image.specs.Records.{Files}
 use Rattle.gor_image.specs.Recovery.{ShardMap, base_end}
 use Rattle.gor_image.specs.Grammars.{and_then}
-use Rattle.gor_image.specs.Holding.{BatchesRise, start_of}
+use Rattle.gor_image.specs.Holding.{BatchesRise, start_of_map}
 use Rattle.gor_image.specs.Images.{base_of, read_files, remaining_logs, map_of_files, with_limits}
 use Rattle.gor_recover.specs.Openings.{IsMet}
-use Rattle.gor_recover.specs.Gathering.{IsGathered, HasSeries}
+use Rattle.gor_recover.specs.Gathering.{IsGathered, SeriesIsThere}
 use Rattle.gor_recover.specs.Parts.{key_shown}
 use Rattle.gor_recover.specs.KeyReads.{AreKeysAt, NumbersRise}
-use Rattle.gor_recover.specs.RowReads.{AreRows}
+use Rattle.gor_recover.specs.RowReads.{AreBlockRows}
 use Rattle.gor_recover.specs.BatchReads.{AreParts}
 use Rattle.gor_recover.specs.LogReads.{LogsAre, top_among}
 use Rattle.gor_recover.specs.StoreReads.{IsBasedOn}
@@ -32,11 +32,11 @@ pub record AreGatheredOf (files : Files) (upto : ℕ) (store : GatheredFiles) : 
   pub keys_are : files.keys ≡ map key_shown store.keys.items
   pub keys : AreKeysAt files.keys
   pub numbers : NumbersRise files.base.upto files.keys
-  pub rows : AreRows files.blocks
+  pub rows : AreBlockRows files.blocks
   pub parts : AreParts files.batches
   pub rise : BatchesRise 0 files.batches
   pub gathered : AllByRecursion (IsGathered files) store.series
-  pub has : AllByRecursion (λ k. HasSeries store.series k.it) store.keys.items
+  pub has : AllByRecursion (λ k. SeriesIsThere store.series k.it) store.keys.items
   pub logs_are : LogsAre (base_end files.base.window) files.batches store.logs
 
 pub record AreOfFiles (upto : ℕ) (store : GatheredFiles) : Type 0 where
@@ -59,7 +59,7 @@ GathersAll tells seen marks base store = IsBasedOn marks base → HasGathered te
 pub record Restores (files : Files) (list slots : ℕ) (logs : Logs) (marks : List Mark) (r : Recovered) : Type 0 where
   pub map : ShardMap
   pub is : and_then (map_of_files list files) (with_limits slots) ≡ Ok map
-  pub start_is : recovered_start slots r ≡ start_of slots map
+  pub start_is : recovered_start slots r ≡ start_of_map slots map
   pub start : StartsWith slots r
   pub fresh : r.fresh ≡ false
   pub marks_are : r.marks.items ≡ marks

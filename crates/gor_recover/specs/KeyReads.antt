@@ -7,19 +7,19 @@ use Rattle.gor_image.specs.Records.{Placed}
 use Rattle.gor_recover.specs.declared.keys.KeyOrder.{KeyOrder}
 use Rattle.gor_recover.specs.declared.keys.KeyList.{KeyList}
 use Rattle.gor_image.specs.Holding.{RiseAbove}
-use Rattle.gor_image.specs.Recovery.{number_in}
+use Rattle.gor_image.specs.Recovery.{change_number_in}
 use Rattle.std.specs.List.{AllByRecursion}
 use Rattle.gor_keys.specs.declared.record.KeyRecord.{KeyRecord}
 use Rattle.gor_keys.specs.declared.record.KeyRecord.TheVariants.{Create, Delete, Live}
-use Rattle.gor_keys.specs.Spelling.{IsSeries, IsPlace, series}
+use Rattle.gor_keys.specs.Spelling.{SeriesInLimits, IsPlace, series}
 use Rattle.gor_model.specs.declared.unit.Unit.TheVariants.{Second}
 use Rattle.gor_recover.specs.Parts.{key_shown}
 
 -- every field of a record of a key list is in its limits
 abbrev pub IsKeyLimited : KeyRecord → Type 0
-IsKeyLimited (Create number slot floor name) = IsSeries Second (series number slot floor name)
+IsKeyLimited (Create number slot floor name) = SeriesInLimits Second (series number slot floor name)
 IsKeyLimited (Delete number slot) = IsPlace Second number slot
-IsKeyLimited (Live uid slot floor name) = IsSeries Second (series uid slot floor name)
+IsKeyLimited (Live uid slot floor name) = SeriesInLimits Second (series uid slot floor name)
 
 -- a record of a key list, at its place
 pub record IsKeyAt (r : Placed KeyRecord) : Type 0 where
@@ -48,10 +48,10 @@ pub record AreListed (sealed : Bool) (upto : ℕ) (bodies : List (ℕ × List �
 
 -- the numbers of records rise, and are above this one
 abbrev pub NumbersRise : ℕ → List (Placed KeyRecord) → Type 0
-NumbersRise upto entries = RiseAbove upto (filter_map (λ r. number_in r.it) entries)
+NumbersRise upto entries = RiseAbove upto (filter_map (λ r. change_number_in r.it) entries)
 
 -- the key list of this number has these records
-pub record HasKeys (seen : Contents) (number : ℕ) (sealed : Bool) (upto : ℕ) (entries : List (Placed KeyRecord)) : Type 0 where
+pub record HasKeyRecords (seen : Contents) (number : ℕ) (sealed : Bool) (upto : ℕ) (entries : List (Placed KeyRecord)) : Type 0 where
   pub keys : KeysRead
   pub read : read_gated seen (read_keys sealed) (Keys number) (keys_from upto) ≡ Ok keys
   pub are : keys.records ≡ entries

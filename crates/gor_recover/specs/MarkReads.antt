@@ -2,14 +2,14 @@
 use Rattle.std.specs.Prelude.{◌≡◌, ℕ, ◌<◌, ◌^◌, List, [], ◌∷◌, Option, ⊤}
 use Rattle.gor_marks.specs.declared.mark.Mark.{Mark}
 use Rattle.gor_marks.specs.declared.mark.Mark.TheVariants.{Home}
-use Rattle.gor_marks.specs.Spelling.{InLimits}
+use Rattle.gor_marks.specs.Spelling.{MarkInLimits}
 use Rattle.gor_image.specs.Images.{base_of, current, first_log_of}
 use Rattle.gor_image.specs.MarkLists.{AllFollow}
 
 -- the first is a home, and sealed marks follow it
 abbrev pub AreFromHome : List Mark → Type 0
 AreFromHome [] = ⊤
-AreFromHome (Home n s ∷ more) = InLimits (Home n s) × AllFollow (Home n s ∷ []) more
+AreFromHome (Home n s ∷ more) = MarkInLimits (Home n s) × AllFollow (Home n s ∷ []) more
 AreFromHome (m ∷ more) = ⊥
 
 -- what is carried along of marks: the last window, the count of the sealed ones, the last change number and the first log

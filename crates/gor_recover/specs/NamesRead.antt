@@ -16,8 +16,8 @@ use Rattle.gor_name.specs.declared.keyed_name.KeyedName.{KeyedName}
 use Rattle.gor_recover.specs.declared.names.NamedRow.{NamedRow}
 use Rattle.gor_recover.specs.declared.ranges.Range.{Range}
 use Rattle.gor_image.specs.Records.{Placed, Files}
-use Rattle.gor_image.specs.Recovery.{Names, WrongName, read_name, read_each, filled, log_records, recovered}
-use Rattle.gor_image.specs.Holding.{rows_of}
+use Rattle.gor_image.specs.Recovery.{Names, WrongName, read_name, read_each, filled, records_of_batches, recovered}
+use Rattle.gor_image.specs.Holding.{rows_of_map}
 use Rattle.gor_image.specs.Images.{names_in, rows_by_slot}
 use Rattle.gor_recover.specs.Openings.{IsMet}
 use Rattle.gor_recover.specs.Naming.{AreNames, named_row, counted}
@@ -39,12 +39,12 @@ pub record Reaches (upto : ℕ) (ranges : List Range) (names : Names) (key : Pla
   pub further : (rest : List (Placed KeyRecord)) → names_from upto ranges names (key ∷ rest) ≡ names_from upto ranges after rest
 
 -- a record is refused, whatever follows
-abbrev pub Stops : ℕ → ℕ → List Range → Names → Placed KeyRecord → OpenFault → Type 0
-Stops list upto ranges names key stop = (rest : List (Placed KeyRecord)) → IsMet (names_in list (names_from upto ranges names (key ∷ rest))) stop
+abbrev pub StopsReading : ℕ → ℕ → List Range → Names → Placed KeyRecord → OpenFault → Type 0
+StopsReading list upto ranges names key stop = (rest : List (Placed KeyRecord)) → IsMet (names_in list (names_from upto ranges names (key ∷ rest))) stop
 
 -- the row that is recovered of a series, under its key
 abbrev pub filled_row : Files → NamedRow → List ℕ × Row
-filled_row files r = (key_of r.name, filled files.base files.blocks (log_records files.batches) (named_row r))
+filled_row files r = (key_of r.name, filled files.base files.blocks (records_of_batches files.batches) (named_row r))
 
 -- the series that are left, by rising slot
 pub record AreNamed (read : Result Names (Placed WrongName)) (rows : List NamedRow) : Type 0 where
@@ -52,7 +52,7 @@ pub record AreNamed (read : Result Names (Placed WrongName)) (rows : List NamedR
   pub is : read ≡ Ok names
   pub rows_are : rows_by_slot names ≡ map named_row rows
   pub low : AllByRecursion (λ r. r.slot < slots_of_a_shard) rows
-  pub keyed : (files : Files) → rows_of (recovered files names) ≡ map (filled_row files) rows
+  pub keyed : (files : Files) → rows_of_map (recovered files names) ≡ map (filled_row files) rows
 
 -- the disk did not fail
 abbrev pub IsCalm : OpenFault → Type 0

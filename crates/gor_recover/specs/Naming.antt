@@ -34,7 +34,7 @@ pub record AreNames (names : Names) (seats : List (Option NamedRow)) (keys : Lis
   pub key : (k : KeyedName) → is_some (names.row (key_of k.name)) ≡ list_any (has_key (key_of k.name)) keys
 
 -- names were read, and these are they
-pub record AreRead (read : Result Names WrongName) (seats : List (Option NamedRow)) (keys : List KeyedName) : Type 0 where
+pub record NamesAreRead (read : Result Names WrongName) (seats : List (Option NamedRow)) (keys : List KeyedName) : Type 0 where
   pub names : Names
   pub is : read ≡ Ok names
   pub are : AreNames names seats keys
@@ -44,8 +44,8 @@ Refuses read clash.Slot = read ≡ Err WrongSlot
 Refuses read clash.Name = read ≡ Err SameName
 Refuses read clash.NoMemory = ⊤
 
-abbrev pub Answers : {T : Type 0} → Result Names WrongName → Result T Clash → List (Option NamedRow) → List KeyedName → Type 0
-Answers read result seats keys = MatchResult result (λ _. AreRead read seats keys) (Refuses read)
+abbrev pub GivesNames : {T : Type 0} → Result Names WrongName → Result T Clash → List (Option NamedRow) → List KeyedName → Type 0
+GivesNames read result seats keys = MatchResult result (λ _. NamesAreRead read seats keys) (Refuses read)
 
 -- ---- which records count
 

@@ -20,10 +20,10 @@ IsMet read refused.Disk = ⊤
 IsMet read refused.NoMemory = ⊤
 
 -- the count of faults rises where the disk failed, and stays otherwise
-abbrev pub FaultCounts : OpenFault → ℕ → ℕ → Type 0
-FaultCounts (refused.Image fault) old new = new ≡ old
-FaultCounts refused.Disk old new = Rose old new
-FaultCounts refused.NoMemory old new = new ≡ old
+abbrev pub OpenFaultCounts : OpenFault → ℕ → ℕ → Type 0
+OpenFaultCounts (refused.Image fault) old new = new ≡ old
+OpenFaultCounts refused.Disk old new = Rose old new
+OpenFaultCounts refused.NoMemory old new = new ≡ old
 
 abbrev pub CountsOpenFault : {T : Type 0} → Result T OpenFault → ℕ → ℕ → Type 0
-CountsOpenFault result old new = MatchResult result (λ _. new ≡ old) (λ fault. FaultCounts fault old new)
+CountsOpenFault result old new = MatchResult result (λ _. new ≡ old) (λ fault. OpenFaultCounts fault old new)

@@ -2,7 +2,7 @@
 use Rattle.std.specs.Prelude.{◌≡◌, ℕ, ◌<◌, List, map, nat_eq, length, slice_get, option_map, Some, IsTrue}
 use Rattle.std.specs.List.{IsDistinct, AllByRecursion, list_any}
 use Rattle.gor_recover.specs.declared.gather.Gathered.{Gathered}
-use Rattle.gor_recover.specs.Gathering.{IsBegun, has_uid}
+use Rattle.gor_recover.specs.Gathering.{HasGatheredNothing, has_uid}
 
 -- the uids of the series, in order, and no uid twice
 pub record ArePlaced (series : List Gathered) (places : List ℕ) : Type 0 where
@@ -16,5 +16,5 @@ pub record IsPlaceOf (series : List Gathered) (uid at : ℕ) : Type 0 where
 
 -- none is lost, and what is new is begun
 pub record BeginsMore (old new : List Gathered) : Type 0 where
-  pub begun : AllByRecursion IsBegun old → AllByRecursion IsBegun new
+  pub begun : AllByRecursion HasGatheredNothing old → AllByRecursion HasGatheredNothing new
   pub kept : (uid : ℕ) → IsTrue (list_any (has_uid uid) old) → IsTrue (list_any (has_uid uid) new)

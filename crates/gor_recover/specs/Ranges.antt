@@ -1,9 +1,9 @@
 -- The change numbers that batches have.
 use Rattle.std.specs.Prelude.{ℕ, ◌<◌, ◌≤◌, nat_le, List, [], ◌∷◌, Bool, ◌&&◌, ⊤}
 use Rattle.gor_recover.specs.declared.ranges.Range.{Range}
-use Rattle.gor_image.specs.Records.{Batch}
+use Rattle.gor_image.specs.Records.{BatchInLog}
 
-abbrev pub range_of : Batch → Range
+abbrev pub range_of : BatchInLog → Range
 range_of batch = record { first = batch.first; last = batch.last }
 
 abbrev pub has_number : ℕ → Range → Bool

@@ -5,10 +5,10 @@ use Rattle.gor_marks.specs.declared.mark.Mark.{Mark}
 use Rattle.gor_image.specs.declared.fault.ImageFault.{ImageFault}
 use Rattle.gor_recover.specs.declared.recovered.LogTop.{LogTop}
 use Rattle.gor_recover.specs.declared.recovered.Recovered.{Recovered}
-use Rattle.gor_image.specs.Records.{Batch}
+use Rattle.gor_image.specs.Records.{BatchInLog}
 use Rattle.gor_image.specs.Recovery.{ShardMap}
 use Rattle.gor_image.specs.Grammars.{and_then}
-use Rattle.gor_image.specs.Holding.{start_of}
+use Rattle.gor_image.specs.Holding.{start_of_map}
 use Rattle.gor_image.specs.Images.{current, read_files, read_logs, remaining_logs, map_of_files, with_limits, opens_to, marks_of}
 use Rattle.gor_recover.specs.LogReads.{top_among}
 use Rattle.gor_image.specs.MarkLists.{AreMarksOrNone, AreBehind}
@@ -22,7 +22,7 @@ pub record AreHomed (marks : List Mark) : Type 0 where
 
 -- the greatest windows of the puts of the logs that remain
 pub record HasTops (seen : Contents) (marks : List Mark) (tops : List LogTop) : Type 0 where
-  pub batches : List Batch
+  pub batches : List BatchInLog
   pub read : read_logs seen (remaining_logs marks) [] ≡ Ok batches
   pub are : tops ≡ map (top_among batches) (remaining_logs marks)
 
@@ -39,7 +39,7 @@ store_opens seen marks slots = and_then (read_files seen marks) (λ files. and_t
 pub record IsOpened (read : Result ShardMap ImageFault) (slots : ℕ) (r : Recovered) : Type 0 where
   pub map : ShardMap
   pub is : read ≡ Ok map
-  pub start : recovered_start slots r ≡ start_of slots map
+  pub start : recovered_start slots r ≡ start_of_map slots map
 
 -- a store was opened by its marks
 pub record OpensStore (tells : Bool) (seen : Contents) (marks : List Mark) (slots : ℕ) (r : Recovered) : Type 0 where

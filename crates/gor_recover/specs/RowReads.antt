@@ -22,8 +22,8 @@ is_milli (Ok Second) = false
 is_milli (Err misread) = false
 
 -- the points of a block where it is of this window
-abbrev pub points_of : ℕ → PointBlock → Option (List Point)
-points_of w block = if nat_eq block.window w then Some block.points else None
+abbrev pub points_of_window : ℕ → PointBlock → Option (List Point)
+points_of_window w block = if nat_eq block.window w then Some block.points else None
 
 abbrev pub wants_memory : BlockFault → Bool
 wants_memory block_fault.NoMemory = true
@@ -40,7 +40,7 @@ abbrev pub file_rows : ℕ → List ℕ → Reads (List SlabRow)
 file_rows file bytes = and_then (from 0 (unit_in bytes)) (λ unit. and_then (in_seconds unit (index_in file bytes)) (λ index. Ok index.rows))
 
 -- a row whose fields are in their limits, and whose points rise in its window
-pub record IsRow (row : BlockRow) : Type 0 where
+pub record IsBlockRow (row : BlockRow) : Type 0 where
   pub uid : IsNumber row.uid
   pub limit : row.window ≤ last_window
   pub within : row.window ≤ row.file
@@ -48,5 +48,5 @@ pub record IsRow (row : BlockRow) : Type 0 where
   pub inside : AllByRecursion (λ p. window p.time ≡ row.window) row.points
   pub words : AllByRecursion (λ p. p.word < 2 ^ 64) row.points
 
-abbrev pub AreRows : List BlockRow → Type 0
-AreRows = AllByRecursion IsRow
+abbrev pub AreBlockRows : List BlockRow → Type 0
+AreBlockRows = AllByRecursion IsBlockRow

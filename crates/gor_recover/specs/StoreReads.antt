@@ -11,7 +11,7 @@ use Rattle.gor_image.specs.Records.{BlockRow}
 use Rattle.gor_image.specs.Grammars.{rows_at}
 use Rattle.gor_image.specs.Images.{in_file, sealed_window, current, base_of, first_log_of, read_blocks}
 use Rattle.gor_recover.specs.Gathering.{each_with_rows}
-use Rattle.gor_recover.specs.RowReads.{AreRows}
+use Rattle.gor_recover.specs.RowReads.{AreBlockRows}
 
 -- what a mark says that is the last
 abbrev pub told_by : Mark → Based
@@ -35,13 +35,13 @@ live_from last marks = filter (λ w. nat_lt last (w + 12)) (filter_map sealed_wi
 -- a block file was read and gathered
 pub record HasRows (tells : Bool) (seen : Contents) (window : ℕ) (old new : List Gathered) : Type 0 where
   pub rows : List BlockRow
-  pub limits : AreRows rows
+  pub limits : AreBlockRows rows
   pub added : new ≡ each_with_rows old rows
   pub read : IsTrue tells → in_file (Block window) (rows_at window (seen (Block window))) ≡ Ok rows
 
 -- so were those of some windows
 pub record HasBlocks (tells : Bool) (seen : Contents) (windows : List ℕ) (old new : List Gathered) : Type 0 where
   pub rows : List BlockRow
-  pub limits : AreRows rows
+  pub limits : AreBlockRows rows
   pub added : new ≡ each_with_rows old rows
   pub read : IsTrue tells → read_blocks seen windows ≡ Ok rows

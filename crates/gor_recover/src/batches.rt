@@ -2,12 +2,12 @@
 ghost use Rattle.std.specs.Prelude.{◌≡◌, ◌+◌, ◌<◌, ◌^◌, [], ◌∷◌, ◌++◌, List, length, map, IfOk};
 ghost use Rattle.std.specs.List.{flat_map};
 ghost use Rattle.gor_gate.specs.Bodies.{listed, AreInside};
-ghost use Rattle.gor_log.specs.Spelling.{record_spelling};
-ghost use Rattle.gor_image.specs.Records.{Batch};
+ghost use Rattle.gor_log.specs.Spelling.{log_record_spelling};
+ghost use Rattle.gor_image.specs.Records.{BatchInLog};
 ghost use Rattle.gor_image.specs.Grammars.{records_placed, log_at};
 ghost use Rattle.gor_image.specs.Holding.{BatchesRise};
 ghost use Rattle.gor_image.specs.Images.{last_number, read_batch, read_bodies};
-ghost use Rattle.gor_recover.specs.FileFaults.{Gives};
+ghost use Rattle.gor_recover.specs.FileFaults.{GivesFile};
 ghost use Rattle.gor_recover.specs.Parts.{record_shown, batch_shown};
 ghost use Rattle.gor_recover.specs.BatchReads.{IsPart, AreParts};
 
@@ -20,7 +20,7 @@ use std::alloc::{AllocError, Global};
 
 /// How many bytes a record takes.
 fn record_len(entry: LogRecord) -> u64
-    ensures { result ≡ length (record_spelling entry) }
+    ensures { result ≡ length (log_record_spelling entry) }
 {
     match entry {
         LogRecord::Put { .. } => 21,
@@ -31,7 +31,7 @@ fn record_len(entry: LogRecord) -> u64
 
 /// The records with their places, of which the first begins at `at`.
 fn placed(alloc: Global, at: u64, entries: &[LogRecord]) -> Result<Vec<PlacedLog>, AllocError>
-    requires { at + length (flat_map record_spelling entries.now) < 2 ^ 63 }
+    requires { at + length (flat_map log_record_spelling entries.now) < 2 ^ 63 }
     ensures { IfOk result (λ placed. map record_shown placed.items ≡ records_placed at entries.now) }
 {
     let mut at = at;
@@ -50,7 +50,7 @@ fn placed(alloc: Global, at: u64, entries: &[LogRecord]) -> Result<Vec<PlacedLog
 #[tactic(auto, unfolding(gor_image::specs::Grammars::log_at))]
 fn log_body(alloc: Global, log: u32, at: u64, body: &[u8]) -> Result<LogPart, FileFault>
     requires { at + length body.now < 2 ^ 63 }
-    ensures read { Gives batch_shown result (log_at log at body.now) }
+    ensures read { GivesFile batch_shown result (log_at log at body.now) }
     ensures limits { IfOk result (λ part. IsPart (batch_shown part)) }
 {
     match read_log(alloc, body) {
@@ -74,7 +74,7 @@ fn part_after(
     body: &[u8],
 ) -> Result<LogPart, FileFault>
     requires { at + length body.now < 2 ^ 63 }
-    ensures read { (batches : List Batch) → last_number batches ≡ before → Gives (λ part. batches ++ batch_shown part ∷ []) result (read_batch log batches at body.now) }
+    ensures read { (batches : List BatchInLog) → last_number batches ≡ before → GivesFile (λ part. batches ++ batch_shown part ∷ []) result (read_batch log batches at body.now) }
     ensures above { IfOk result (λ part. before < part.first) }
     ensures limits { IfOk result (λ part. IsPart (batch_shown part)) }
 {
@@ -94,7 +94,7 @@ pub(crate) fn parts_in(
     bodies: &[Body],
 ) -> Result<Vec<LogPart>, FileFault>
     requires { AreInside (2 ^ 63) (listed bodies.now) }
-    ensures read { (batches : List Batch) → last_number batches ≡ before → Gives (λ parts. batches ++ map batch_shown parts.items) result (read_bodies (read_batch log) batches (listed bodies.now)) }
+    ensures read { (batches : List BatchInLog) → last_number batches ≡ before → GivesFile (λ parts. batches ++ map batch_shown parts.items) result (read_bodies (read_batch log) batches (listed bodies.now)) }
     ensures limits { IfOk result (λ parts. AreParts (map batch_shown parts.items)) }
     ensures rise { IfOk result (λ parts. BatchesRise before (map batch_shown parts.items)) }
 {

@@ -2,12 +2,12 @@
 ghost use Rattle.std.specs.Prelude.{◌≡◌, ◌+◌, ◌*◌, ◌<◌, ◌≤◌, ◌^◌, length, map, IfOk};
 ghost use Rattle.std.specs.List.{AllByRecursion};
 ghost use Rattle.gor_model.specs.Windows.{last_window};
-ghost use Rattle.gor_slab.specs.Reading.{unit_in, block_of, IsInside};
+ghost use Rattle.gor_slab.specs.Reading.{unit_in, block_of, StandsInFile};
 ghost use Rattle.gor_image.specs.Blocks.{points_in};
 ghost use Rattle.gor_image.specs.Grammars.{row_read, rows_read, rows_at};
-ghost use Rattle.gor_recover.specs.FileFaults.{Gives};
-ghost use Rattle.gor_recover.specs.RowReads.{is_milli, wants_memory, points_of, file_rows, IsRowOf, AreRows};
-ghost use Rattle.gor_recover.specs.Parts.{row_shown};
+ghost use Rattle.gor_recover.specs.FileFaults.{GivesFile};
+ghost use Rattle.gor_recover.specs.RowReads.{is_milli, wants_memory, points_of_window, file_rows, IsRowOf, AreBlockRows};
+ghost use Rattle.gor_recover.specs.Parts.{block_row_shown};
 
 use crate::file_fault::{FileFault, damaged, misread};
 use crate::records::BlockPart;
@@ -37,7 +37,7 @@ fn wants_memory(fault: BlockFault) -> bool
 
 /// The points of a block where it is of this window.
 fn points_of(block: Block, window: u32) -> Result<Option<Points>, AllocError>
-    ensures { IfOk result (λ found. found ≡ points_of window block) }
+    ensures { IfOk result (λ found. found ≡ points_of_window window block) }
 {
     if block.window == window {
         Ok(Some(block.points()?))
@@ -66,9 +66,9 @@ fn part_of(
     bytes: &[u8],
     row: &SlabRow,
 ) -> Result<BlockPart, FileFault>
-    requires inside { IsInside bytes.now row.now }
+    requires inside { StandsInFile bytes.now row.now }
     requires window { row.now.window ≤ last_window }
-    ensures { Gives row_shown result (row_read file at bytes.now row.now (points_in row.now.window (block_of bytes.now row.now))) }
+    ensures { GivesFile block_row_shown result (row_read file at bytes.now row.now (points_in row.now.window (block_of bytes.now row.now))) }
 {
     match block_points(alloc, row.window, block_at(bytes, row))? {
         Some(points) => Ok(BlockPart {
@@ -90,10 +90,10 @@ fn parts_of(
     bytes: &[u8],
     rows: &[SlabRow],
 ) -> Result<Vec<BlockPart>, FileFault>
-    requires inside { AllByRecursion (IsInside bytes.now) rows.now }
+    requires inside { AllByRecursion (StandsInFile bytes.now) rows.now }
     requires limits { AllByRecursion (IsRowOf file) rows.now }
     requires at { at + length rows.now * 24 < 2 ^ 63 }
-    ensures { Gives (λ parts. map row_shown parts.items) result (rows_read file at bytes.now rows.now) }
+    ensures { GivesFile (λ parts. map block_row_shown parts.items) result (rows_read file at bytes.now rows.now) }
 {
     let mut at = at;
     let mut parts = Vec::with_capacity(alloc, rows.len())?;
@@ -107,8 +107,8 @@ fn parts_of(
 /// The rows of the file of a window.
 fn rows_of(alloc: Global, file: u32, bytes: &[u8]) -> Result<Vec<SlabRow>, FileFault>
     requires { length bytes.now < 2 ^ 63 }
-    ensures read { Gives (λ rows. rows.items) result (file_rows file bytes.now) }
-    ensures inside { IfOk result (λ rows. AllByRecursion (IsInside bytes.now) rows.items) }
+    ensures read { GivesFile (λ rows. rows.items) result (file_rows file bytes.now) }
+    ensures inside { IfOk result (λ rows. AllByRecursion (StandsInFile bytes.now) rows.items) }
     ensures limits { IfOk result (λ rows. AllByRecursion (IsRowOf file) rows.items) }
     ensures fits { IfOk result (λ rows. length rows.items * 24 ≤ length bytes.now) }
 {
@@ -126,8 +126,8 @@ fn rows_of(alloc: Global, file: u32, bytes: &[u8]) -> Result<Vec<SlabRow>, FileF
 #[tactic(auto, unfolding(gor_image::specs::Grammars::rows_at))]
 pub(crate) fn blocks_in(alloc: Global, file: u32, bytes: &[u8]) -> Result<Vec<BlockPart>, FileFault>
     requires { length bytes.now < 2 ^ 63 }
-    ensures read { Gives (λ parts. map row_shown parts.items) result (rows_at file bytes.now) }
-    ensures limits { IfOk result (λ parts. AreRows (map row_shown parts.items)) }
+    ensures read { GivesFile (λ parts. map block_row_shown parts.items) result (rows_at file bytes.now) }
+    ensures limits { IfOk result (λ parts. AreBlockRows (map block_row_shown parts.items)) }
 {
     let rows = rows_of(alloc, file, bytes)?;
     let at = (bytes.len() - rows.len() * 24) as u64;

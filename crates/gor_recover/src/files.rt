@@ -3,17 +3,17 @@ ghost use Rattle.std.specs.Prelude.{◌≡◌, ℕ, ◌++◌, ◌^◌, ◌<◌, 
 ghost use Rattle.gor_disk.specs.declared.disk.FileId.TheVariants.{Marks, Keys, Log, Block};
 ghost use Rattle.gor_gate.specs.Gates.{gates};
 ghost use Rattle.gor_gate.specs.Bodies.{listed, AreInside};
-ghost use Rattle.gor_image.specs.Records.{Batch};
+ghost use Rattle.gor_image.specs.Records.{BatchInLog};
 ghost use Rattle.gor_image.specs.Grammars.{rows_at};
 ghost use Rattle.gor_image.specs.Holding.{BatchesRise};
 ghost use Rattle.gor_image.specs.Images.{in_file, same_home, marks_of, last_number, read_gated, read_keys, read_batch};
 ghost use Rattle.gor_recover.specs.Openings.{OnlyRead, IsMet, CountsOpenFault};
 ghost use Rattle.gor_image.specs.MarkLists.{AreMarksOrNone};
-ghost use Rattle.gor_recover.specs.BodyReads.{AreWhole, IsCutIn, IsUnread};
-ghost use Rattle.gor_recover.specs.KeyReads.{HasKeys, keys_from, AreKeysAt, NumbersRise};
-ghost use Rattle.gor_recover.specs.Parts.{key_shown, batch_shown, row_shown};
+ghost use Rattle.gor_recover.specs.BodyReads.{AreAllBodies, IsCutIn, IsUnread};
+ghost use Rattle.gor_recover.specs.KeyReads.{HasKeyRecords, keys_from, AreKeysAt, NumbersRise};
+ghost use Rattle.gor_recover.specs.Parts.{key_shown, batch_shown, block_row_shown};
 ghost use Rattle.gor_recover.specs.BatchReads.{AreParts};
-ghost use Rattle.gor_recover.specs.RowReads.{AreRows};
+ghost use Rattle.gor_recover.specs.RowReads.{AreBlockRows};
 
 use crate::batches::parts_in;
 use crate::blocks::blocks_in;
@@ -30,7 +30,7 @@ use std::alloc::Global;
 
 /// The bodies of a gated file.
 fn bodies_of<D: Disk>(alloc: Global, disk: &mut D, file: FileId) -> Result<Vec<Body>, OpenFault>
-    ensures ok { IsTrue D.tells → IfOk result (λ bodies. AreWhole (gates ((D.view disk.old).seen file)) (listed bodies.items)) }
+    ensures ok { IsTrue D.tells → IfOk result (λ bodies. AreAllBodies (gates ((D.view disk.old).seen file)) (listed bodies.items)) }
     ensures err { IsTrue D.tells → IfErr result (IsCutIn file (gates ((D.view disk.old).seen file))) }
     ensures inside { IfOk result (λ bodies. AreInside (2 ^ 63) (listed bodies.items)) }
     ensures same { IsTrue D.tells → OnlyRead (D.view disk.old) (D.view disk.new) }
@@ -69,7 +69,7 @@ pub(crate) fn read_key_list<D: Disk>(
     sealed: bool,
     upto: u64,
 ) -> Result<Vec<PlacedKey>, OpenFault>
-    ensures ok { IsTrue D.tells → IfOk result (λ keys. HasKeys ((D.view disk.old).seen) number sealed upto (map key_shown keys.items)) }
+    ensures ok { IsTrue D.tells → IfOk result (λ keys. HasKeyRecords ((D.view disk.old).seen) number sealed upto (map key_shown keys.items)) }
     ensures err { IsTrue D.tells → IfErr result (IsMet (read_gated ((D.view disk.old).seen) (read_keys sealed) (Keys number) (keys_from upto))) }
     ensures limits { IfOk result (λ keys. AreKeysAt (map key_shown keys.items)) }
     ensures rise { IfOk result (λ keys. NumbersRise upto (map key_shown keys.items)) }
@@ -91,8 +91,8 @@ pub(crate) fn read_log<D: Disk>(
     log: u32,
     before: u64,
 ) -> Result<Vec<LogPart>, OpenFault>
-    ensures ok { IsTrue D.tells → (batches : List Batch) → last_number batches ≡ before → IfOk result (λ parts. read_gated ((D.view disk.old).seen) (read_batch log) (Log log) batches ≡ Ok (batches ++ map batch_shown parts.items)) }
-    ensures err { IsTrue D.tells → (batches : List Batch) → last_number batches ≡ before → IfErr result (IsMet (read_gated ((D.view disk.old).seen) (read_batch log) (Log log) batches)) }
+    ensures ok { IsTrue D.tells → (batches : List BatchInLog) → last_number batches ≡ before → IfOk result (λ parts. read_gated ((D.view disk.old).seen) (read_batch log) (Log log) batches ≡ Ok (batches ++ map batch_shown parts.items)) }
+    ensures err { IsTrue D.tells → (batches : List BatchInLog) → last_number batches ≡ before → IfErr result (IsMet (read_gated ((D.view disk.old).seen) (read_batch log) (Log log) batches)) }
     ensures limits { IfOk result (λ parts. AreParts (map batch_shown parts.items)) }
     ensures rise { IfOk result (λ parts. BatchesRise before (map batch_shown parts.items)) }
     ensures same { IsTrue D.tells → OnlyRead (D.view disk.old) (D.view disk.new) }
@@ -131,9 +131,9 @@ pub(crate) fn read_block_file<D: Disk>(
     disk: &mut D,
     window: u32,
 ) -> Result<Vec<BlockPart>, OpenFault>
-    ensures ok { IsTrue D.tells → IfOk result (λ parts. in_file (Block window) (rows_at window ((D.view disk.old).seen (Block window))) ≡ Ok (map row_shown parts.items)) }
+    ensures ok { IsTrue D.tells → IfOk result (λ parts. in_file (Block window) (rows_at window ((D.view disk.old).seen (Block window))) ≡ Ok (map block_row_shown parts.items)) }
     ensures err { IsTrue D.tells → IfErr result (IsMet (in_file (Block window) (rows_at window ((D.view disk.old).seen (Block window))))) }
-    ensures limits { IfOk result (λ parts. AreRows (map row_shown parts.items)) }
+    ensures limits { IfOk result (λ parts. AreBlockRows (map block_row_shown parts.items)) }
     ensures same { IsTrue D.tells → OnlyRead (D.view disk.old) (D.view disk.new) }
     ensures cause { CountsOpenFault result (D.faults disk.old) (D.faults disk.new) }
 {

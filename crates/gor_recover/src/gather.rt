@@ -1,9 +1,9 @@
 //! Points and changes of series are gathered, record by record.
 ghost use Rattle.std.specs.Prelude.{◌≡◌, [], map, OnOk, IfOk, fold, length, option_map};
 ghost use Rattle.gor_model.specs.PlainMap.{last_of};
-ghost use Rattle.gor_recover.specs.Gathering.{with_point, with_points, with_row, with_log, with_end, each_with_row, each_with_rows, each_with_record, each_with_batch, each_with_batches};
+ghost use Rattle.gor_recover.specs.Gathering.{with_gathered_point, with_points, with_row, with_log, with_end, each_with_row, each_with_rows, each_with_record, each_with_batch, each_with_batches};
 ghost use Rattle.gor_image.specs.Recovery as spec;
-ghost use Rattle.gor_recover.specs.Parts.{record_shown, batch_shown, row_shown};
+ghost use Rattle.gor_recover.specs.Parts.{record_shown, batch_shown, block_row_shown};
 ghost use Rattle.gor_model.specs.Windows.{window, window_end};
 
 use crate::records::{BlockPart, LogPart, PlacedLog};
@@ -54,7 +54,7 @@ fn last_time(points: &Points) -> Option<u64>
 
 impl Gathered {
     pub(crate) fn push(&mut self, spot: Spot, point: Point) -> Result<(), AllocError>
-        ensures pushed { OnOk result (self.new ≡ with_point spot self.old point) }
+        ensures pushed { OnOk result (self.new ≡ with_gathered_point spot self.old point) }
         ensures uid { self.new.uid ≡ self.old.uid }
     {
         if self.wrong.is_none() && !is_above(last_time(&self.points), point.time) {

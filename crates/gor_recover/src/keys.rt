@@ -6,11 +6,11 @@ ghost use Rattle.gor_model.specs.declared.unit.Unit.TheVariants.{Second};
 ghost use Rattle.gor_gate.specs.Bodies.{listed, AreInside};
 ghost use Rattle.gor_keys.specs.declared.record.KeyRecord.{KeyRecord as ARecord};
 ghost use Rattle.gor_keys.specs.declared.record.KeyRecord.TheVariants as entry_of;
-ghost use Rattle.gor_keys.specs.Spelling.{IsRecord, floor_len, record_spelling};
+ghost use Rattle.gor_keys.specs.Spelling.{IsKeyRecord, floor_len, key_record_spelling};
 ghost use Rattle.gor_image.specs.Records.{Placed};
 ghost use Rattle.gor_image.specs.Grammars.{keys_placed, keys_at, is_of_millis};
 ghost use Rattle.gor_image.specs.Images.{key_after, keys_after, read_keys, read_bodies};
-ghost use Rattle.gor_recover.specs.FileFaults.{Gives, Fails};
+ghost use Rattle.gor_recover.specs.FileFaults.{GivesFile, MeetsDamage};
 ghost use Rattle.gor_recover.specs.Parts.{key_shown};
 ghost use Rattle.gor_recover.specs.KeyReads.{keys_read, list_read, keys_from, AreKeysAt, AreListed, NumbersRise};
 
@@ -40,7 +40,7 @@ fn floor_len(unit: Unit) -> u64
 
 /// How many bytes a record takes.
 fn record_len(unit: Unit, entry: &KeyRecord) -> u64
-    ensures { result ≡ length (record_spelling unit entry.now) }
+    ensures { result ≡ length (key_record_spelling unit entry.now) }
 {
     match entry {
         KeyRecord::Create { name, .. } => 14 + floor_len(unit) + name.text().len() as u64,
@@ -66,7 +66,7 @@ fn placed(
     at: u64,
     entries: Vec<KeyRecord>,
 ) -> Result<Vec<PlacedKey>, AllocError>
-    requires { at + length (flat_map (record_spelling unit) entries.items) < 2 ^ 63 }
+    requires { at + length (flat_map (key_record_spelling unit) entries.items) < 2 ^ 63 }
     ensures { IfOk result (λ placed. map key_shown placed.items ≡ keys_placed unit at entries.items) }
 {
     let mut at = at;
@@ -84,7 +84,7 @@ fn placed(
 #[tactic(auto, unfolding(gor_image::specs::Grammars::keys_at))]
 fn key_body(alloc: Global, live: bool, at: u64, body: &[u8]) -> Result<Vec<PlacedKey>, FileFault>
     requires { at + length body.now < 2 ^ 63 }
-    ensures read { Gives (λ records. map key_shown records.items) result (keys_at live at body.now) }
+    ensures read { GivesFile (λ records. map key_shown records.items) result (keys_at live at body.now) }
     ensures limits { IfOk result (λ records. AreKeysAt (map key_shown records.items)) }
 {
     if is_of_millis(body) {
@@ -100,7 +100,7 @@ fn key_body(alloc: Global, live: bool, at: u64, body: &[u8]) -> Result<Vec<Place
 /// Whether a record at a place may follow, and what the next one is compared with.
 fn key_after(order: KeyOrder, at: u64, entry: &KeyRecord) -> Result<KeyOrder, FileFault>
     requires { at < 2 ^ 63 }
-    ensures { (bodies : ℕ) (front : List (Placed ARecord)) → Gives (λ next. keys_read bodies next front) result (key_after (keys_read bodies order front) at entry.now) }
+    ensures { (bodies : ℕ) (front : List (Placed ARecord)) → GivesFile (λ next. keys_read bodies next front) result (key_after (keys_read bodies order front) at entry.now) }
 {
     match entry {
         KeyRecord::Create { number, .. } => number_after(order, at, *number),
@@ -111,7 +111,7 @@ fn key_after(order: KeyOrder, at: u64, entry: &KeyRecord) -> Result<KeyOrder, Fi
 
 fn number_after(order: KeyOrder, at: u64, number: u64) -> Result<KeyOrder, FileFault>
     requires { at < 2 ^ 63 }
-    ensures { (bodies : ℕ) (front : List (Placed ARecord)) → Gives (λ next. keys_read bodies next front) result (key_after (keys_read bodies order front) at (entry_of.Delete number 0)) }
+    ensures { (bodies : ℕ) (front : List (Placed ARecord)) → GivesFile (λ next. keys_read bodies next front) result (key_after (keys_read bodies order front) at (entry_of.Delete number 0)) }
 {
     if order.number < number {
         Ok(KeyOrder {
@@ -125,7 +125,7 @@ fn number_after(order: KeyOrder, at: u64, number: u64) -> Result<KeyOrder, FileF
 
 fn slot_after(order: KeyOrder, at: u64, slot: u32) -> Result<KeyOrder, FileFault>
     requires { at < 2 ^ 63 }
-    ensures { (bodies : ℕ) (front : List (Placed ARecord)) (uid floor : ℕ) (name : List ℕ) → Gives (λ next. keys_read bodies next front) result (key_after (keys_read bodies order front) at (entry_of.Live uid slot floor name)) }
+    ensures { (bodies : ℕ) (front : List (Placed ARecord)) (uid floor : ℕ) (name : List ℕ) → GivesFile (λ next. keys_read bodies next front) result (key_after (keys_read bodies order front) at (entry_of.Live uid slot floor name)) }
 {
     if is_above(order.slot, slot) {
         Ok(KeyOrder {
@@ -140,7 +140,7 @@ fn slot_after(order: KeyOrder, at: u64, slot: u32) -> Result<KeyOrder, FileFault
 /// Whether records may follow, one after another, and what the next one is compared with.
 fn keys_after(order: KeyOrder, placed: &[PlacedKey]) -> Result<KeyOrder, FileFault>
     requires { AreKeysAt (map key_shown placed.now) }
-    ensures { (bodies : ℕ) (front : List (Placed ARecord)) → Gives (λ next. keys_read bodies next front) result (keys_after (keys_read bodies order front) (map key_shown placed.now)) }
+    ensures { (bodies : ℕ) (front : List (Placed ARecord)) → GivesFile (λ next. keys_read bodies next front) result (keys_after (keys_read bodies order front) (map key_shown placed.now)) }
 {
     let mut order = order;
     for entry in placed {
@@ -166,7 +166,7 @@ fn read_next(
 ) -> Result<(), FileFault>
     requires { at + length body.now < 2 ^ 63 }
     ensures ok { (sealed : Bool) (bodies : ℕ) → (sealed && nat_eq bodies 0) ≡ live → OnOk result (read_keys sealed (list_read bodies list.old) at body.now ≡ Ok (list_read (bodies + 1) list.new)) }
-    ensures err { (sealed : Bool) (bodies : ℕ) → (sealed && nat_eq bodies 0) ≡ live → IfErr result (λ e. Fails e (read_keys sealed (list_read bodies list.old) at body.now)) }
+    ensures err { (sealed : Bool) (bodies : ℕ) → (sealed && nat_eq bodies 0) ≡ live → IfErr result (λ e. MeetsDamage e (read_keys sealed (list_read bodies list.old) at body.now)) }
     ensures limits { AreKeysAt (map key_shown list.old.records.items) → OnOk result (AreKeysAt (map key_shown list.new.records.items)) }
 {
     let mut placed = key_body(alloc, live, at, body)?;
@@ -186,7 +186,7 @@ pub(crate) fn keys_in(
 ) -> Result<Vec<PlacedKey>, FileFault>
     requires { AreInside (2 ^ 63) (listed bodies.now) }
     ensures ok { IfOk result (λ keys. AreListed sealed upto (listed bodies.now) (map key_shown keys.items)) }
-    ensures err { IfErr result (λ e. Fails e (read_bodies (read_keys sealed) (keys_from upto) (listed bodies.now))) }
+    ensures err { IfErr result (λ e. MeetsDamage e (read_bodies (read_keys sealed) (keys_from upto) (listed bodies.now))) }
     ensures limits { IfOk result (λ keys. AreKeysAt (map key_shown keys.items)) }
     ensures rise { IfOk result (λ keys. NumbersRise upto (map key_shown keys.items)) }
 {

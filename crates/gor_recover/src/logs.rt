@@ -2,8 +2,8 @@
 ghost use Rattle.std.specs.Prelude.{◌≡◌, ℕ, [], ◌∷◌, ◌++◌, map, filter_map, fold, OnOk};
 ghost use Rattle.std.specs.List.{AllByRecursion};
 ghost use Rattle.gor_model.specs.PlainMap.{greatest};
-ghost use Rattle.gor_recover.specs.LogsRead.{AddsLog, AreInLimits, BatchInLimits, raised_top, top_with, floor_with, last_from};
-ghost use Rattle.gor_image.specs.Recovery.{log_records, floor_end};
+ghost use Rattle.gor_recover.specs.LogsRead.{AddsLog, AreLogRecords, BatchInLimits, raised_top, top_with, floor_with, last_from};
+ghost use Rattle.gor_image.specs.Recovery.{records_of_batches, floor_end};
 ghost use Rattle.gor_image.specs.Images.{put_window, greatest_of};
 ghost use Rattle.gor_recover.specs.Ranges.{range_of};
 ghost use Rattle.gor_recover.specs.Parts.{record_shown, batch_shown};
@@ -38,7 +38,7 @@ fn raised(top: Option<u32>, window: u32) -> Option<u32>
 }
 
 fn top_with(top: Option<u32>, placed: &PlacedLog) -> Option<u32>
-    requires limits { AreInLimits (record_shown placed.now ∷ []) }
+    requires limits { AreLogRecords (record_shown placed.now ∷ []) }
     ensures { result ≡ top_with top (record_shown placed.now) }
 {
     match placed.it {
@@ -49,7 +49,7 @@ fn top_with(top: Option<u32>, placed: &PlacedLog) -> Option<u32>
 }
 
 fn top_in(mut top: Option<u32>, records: &[PlacedLog]) -> Option<u32>
-    requires limits { AreInLimits (map record_shown records.now) }
+    requires limits { AreLogRecords (map record_shown records.now) }
     ensures { result ≡ fold top_with top (map record_shown records.now) }
 {
     for placed in records {
@@ -61,7 +61,7 @@ fn top_in(mut top: Option<u32>, records: &[PlacedLog]) -> Option<u32>
 /// The greatest window of the puts of some batches, if they have one.
 fn top_of(parts: &[LogPart]) -> Option<u32>
     requires limits { AllByRecursion BatchInLimits (map batch_shown parts.now) }
-    ensures { result ≡ greatest_of (filter_map put_window (log_records (map batch_shown parts.now))) }
+    ensures { result ≡ greatest_of (filter_map put_window (records_of_batches (map batch_shown parts.now))) }
 {
     let mut top = None;
     for part in parts {
@@ -91,7 +91,7 @@ fn floor_in(mut floor: u64, records: &[PlacedLog]) -> u64
 
 /// The greatest of a floor and the ends of the windows of some batches' floors.
 fn floor_of(mut floor: u64, parts: &[LogPart]) -> u64
-    ensures { result ≡ greatest floor (filter_map floor_end (log_records (map batch_shown parts.now))) }
+    ensures { result ≡ greatest floor (filter_map floor_end (records_of_batches (map batch_shown parts.now))) }
 {
     for part in parts {
         floor = floor_in(floor, &part.records);

@@ -2,7 +2,7 @@
 ghost use Rattle.std.specs.Prelude.{◌≡◌, ◌≤◌, ℕ, List, [], IfOk, IfErr, IsTrue};
 ghost use Rattle.gor_disk.specs.declared.disk.FileId.TheVariants.{Log};
 ghost use Rattle.gor_image.specs.Images.{read_logs, read_gated, read_batch, last_number};
-ghost use Rattle.gor_image.specs.Records.{Batch};
+ghost use Rattle.gor_image.specs.Records.{BatchInLog};
 ghost use Rattle.gor_recover.specs.Openings.{OnlyRead, IsMet, CountsOpenFault};
 ghost use Rattle.gor_recover.specs.LogReads.{HasLog, HasLogs, AreNoLogs, logs_up};
 
@@ -23,7 +23,7 @@ fn add_log<D: Disk>(
     logs: &mut Logs,
 ) -> Result<(), OpenFault>
     ensures ok { IfOk result (λ _. HasLog D.tells ((D.view disk.old).seen) log base series.old logs.old series.new logs.new) }
-    ensures err { IsTrue D.tells → IfErr result (λ fault. (batches : List Batch) → last_number batches ≡ logs.old.last → IsMet (read_gated ((D.view disk.old).seen) (read_batch log) (Log log) batches) fault) }
+    ensures err { IsTrue D.tells → IfErr result (λ fault. (batches : List BatchInLog) → last_number batches ≡ logs.old.last → IsMet (read_gated ((D.view disk.old).seen) (read_batch log) (Log log) batches) fault) }
     ensures same { IsTrue D.tells → OnlyRead (D.view disk.old) (D.view disk.new) }
     ensures cause { CountsOpenFault result (D.faults disk.old) (D.faults disk.new) }
 {

@@ -1,10 +1,10 @@
 //! The marks of a shard, read one after another.
 ghost use Rattle.std.specs.Prelude.{◌≡◌, ◌+◌, ◌<◌, ◌^◌, [], ◌∷◌, ◌++◌, ℕ, Ok, OnOk, IfErr, IfOk};
 ghost use Rattle.gor_gate.specs.Bodies.{listed, AreInside};
-ghost use Rattle.gor_marks.specs.Spelling.{InLimits, is_home};
+ghost use Rattle.gor_marks.specs.Spelling.{MarkInLimits, is_home};
 ghost use Rattle.gor_image.specs.Grammars.{mark_at};
 ghost use Rattle.gor_image.specs.Images.{mark_after, read_mark, read_bodies, is_none};
-ghost use Rattle.gor_recover.specs.FileFaults.{Gives, Fails};
+ghost use Rattle.gor_recover.specs.FileFaults.{GivesFile, MeetsDamage};
 ghost use Rattle.gor_recover.specs.MarkReads.{AreFromHome};
 
 use crate::file_fault::{FileFault, damaged, is_above, misread};
@@ -43,8 +43,8 @@ impl Model for MarkList {
 /// The mark of a body that begins at `at`.
 fn mark_at(first: bool, at: u64, body: &[u8]) -> Result<Mark, FileFault>
     requires { at + 22 < 2 ^ 64 }
-    ensures read { Gives (λ x. x) result (mark_at first at body.now) }
-    ensures limits { IfOk result (λ mark. InLimits mark × (is_home mark ≡ first)) }
+    ensures read { GivesFile (λ x. x) result (mark_at first at body.now) }
+    ensures limits { IfOk result (λ mark. MarkInLimits mark × (is_home mark ≡ first)) }
 {
     match read_mark(body, first) {
         Ok(mark) => Ok(mark),
@@ -71,7 +71,7 @@ impl MarkList {
     fn check(&self, at: u64, mark: Mark) -> Result<(), FileFault>
         requires { at + 18 < 2 ^ 64 }
         ensures ok { OnOk result (mark_after self.now at mark ≡ Ok (self.now ++ mark ∷ [])) }
-        ensures err { IfErr result (λ e. Fails e (mark_after self.now at mark)) }
+        ensures err { IfErr result (λ e. MeetsDamage e (mark_after self.now at mark)) }
     {
         let Mark::Sealed {
             window,
@@ -99,7 +99,7 @@ impl MarkList {
 
     /// Adds a mark that may follow. Without memory nothing has changed.
     fn push(&mut self, mark: Mark) -> Result<(), AllocError>
-        requires limits { InLimits mark }
+        requires limits { MarkInLimits mark }
         requires first { is_home mark ≡ is_none self.old }
         requires follows { (at : ℕ) × (mark_after self.old at mark ≡ Ok (self.old ++ mark ∷ [])) }
         ensures ok { OnOk result (self.new ≡ self.old ++ mark ∷ []) }
@@ -124,7 +124,7 @@ impl MarkList {
     fn read_next(&mut self, at: u64, body: &[u8]) -> Result<(), FileFault>
         requires { at + 22 < 2 ^ 64 }
         ensures ok { OnOk result (read_mark self.old at body.now ≡ Ok self.new) }
-        ensures err { IfErr result (λ e. Fails e (read_mark self.old at body.now)) }
+        ensures err { IfErr result (λ e. MeetsDamage e (read_mark self.old at body.now)) }
     {
         let mark = mark_at(self.marks.is_empty(), at, body)?;
         self.check(at, mark)?;
@@ -144,7 +144,7 @@ impl MarkList {
 /// The marks of the bodies of a file.
 pub(crate) fn marks_in(alloc: Global, bodies: &[Body]) -> Result<Vec<Mark>, FileFault>
     requires { AreInside (2 ^ 63) (listed bodies.now) }
-    ensures read { Gives (λ marks. marks.items) result (read_bodies read_mark [] (listed bodies.now)) }
+    ensures read { GivesFile (λ marks. marks.items) result (read_bodies read_mark [] (listed bodies.now)) }
     ensures follow { IfOk result (λ marks. AreFromHome marks.items) }
 {
     let mut list = MarkList::new(alloc);

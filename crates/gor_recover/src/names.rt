@@ -1,7 +1,7 @@
 //! The series that a key list leaves, with their keys and slots kept apart.
 ghost use Rattle.std.specs.Prelude.{◌≡◌, ◌<◌, ℕ, [], None, IfOk, OnOk, length, replicate};
-ghost use Rattle.gor_image.specs.Recovery.{Names, named, freed, read_name};
-ghost use Rattle.gor_recover.specs.Naming.{AreNames, Answers, HasSlot, counts_in};
+ghost use Rattle.gor_image.specs.Recovery.{Names, name_added, freed, read_name};
+ghost use Rattle.gor_recover.specs.Naming.{AreNames, GivesNames, HasSlot, counts_in};
 ghost use Rattle.gor_recover.specs.Ranges.{RangesRise};
 ghost use Rattle.gor_recover.specs.declared.names.Clash.TheVariants as clash;
 
@@ -75,7 +75,7 @@ impl NameTable {
     fn begin(&mut self, row: NamedRow) -> Result<(), Clash>
         requires slot { row.slot < length self.old.seats.items }
         ensures len { length self.new.seats.items ≡ length self.old.seats.items }
-        ensures names { (names : Names) → AreNames names self.old.seats.items self.old.keys.keys → Answers (named names row.uid row.slot row.floor row.name) result self.new.seats.items self.new.keys.keys }
+        ensures names { (names : Names) → AreNames names self.old.seats.items self.old.keys.keys → GivesNames (name_added names row.uid row.slot row.floor row.name) result self.new.seats.items self.new.keys.keys }
     {
         let slot = row.slot as usize;
         if self.seats[slot].is_some() {
@@ -95,7 +95,7 @@ impl NameTable {
     fn end(&mut self, slot: u32) -> Result<(), Clash>
         requires slot { slot < length self.old.seats.items }
         ensures len { length self.new.seats.items ≡ length self.old.seats.items }
-        ensures names { (names : Names) → AreNames names self.old.seats.items self.old.keys.keys → Answers (freed names slot (names.holder slot)) result self.new.seats.items self.new.keys.keys }
+        ensures names { (names : Names) → AreNames names self.old.seats.items self.old.keys.keys → GivesNames (freed names slot (names.holder slot)) result self.new.seats.items self.new.keys.keys }
     {
         match mem::replace(&mut self.seats[slot as usize], None) {
             None => Err(Clash::Slot),
@@ -110,7 +110,7 @@ impl NameTable {
     pub(crate) fn read(&mut self, it: KeyRecord) -> Result<(), Clash>
         requires slot { HasSlot (length self.old.seats.items) it }
         ensures len { length self.new.seats.items ≡ length self.old.seats.items }
-        ensures names { (names : Names) → AreNames names self.old.seats.items self.old.keys.keys → Answers (read_name names it) result self.new.seats.items self.new.keys.keys }
+        ensures names { (names : Names) → AreNames names self.old.seats.items self.old.keys.keys → GivesNames (read_name names it) result self.new.seats.items self.new.keys.keys }
     {
         match it {
             KeyRecord::Create {

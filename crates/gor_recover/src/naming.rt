@@ -6,7 +6,7 @@ ghost use Rattle.gor_image.specs.Recovery.{Names, no_names};
 ghost use Rattle.gor_image.specs.Images.{names_in};
 ghost use Rattle.gor_recover.specs.Openings.{IsMet};
 ghost use Rattle.gor_recover.specs.Naming.{AreNames, HasSlot};
-ghost use Rattle.gor_recover.specs.NamesRead.{AreNamed, Reaches, Stops, names_from, refusal_at, IsCalm};
+ghost use Rattle.gor_recover.specs.NamesRead.{AreNamed, Reaches, StopsReading, names_from, refusal_at, IsCalm};
 ghost use Rattle.gor_recover.specs.Parts.{key_shown};
 ghost use Rattle.gor_recover.specs.Ranges.{RangesRise};
 
@@ -50,7 +50,7 @@ fn read_key(
     requires slot { HasSlot (length table.old.seats.items) key.it }
     ensures len { length table.new.seats.items ≡ length table.old.seats.items }
     ensures ok { IfOk result (λ _. (names : Names) → AreNames names table.old.seats.items table.old.keys.keys → Reaches upto ranges.now names (key_shown key) table.new.seats.items table.new.keys.keys) }
-    ensures err { IfErr result (λ fault. (names : Names) → AreNames names table.old.seats.items table.old.keys.keys → Stops list upto ranges.now names (key_shown key) fault) }
+    ensures err { IfErr result (λ fault. (names : Names) → AreNames names table.old.seats.items table.old.keys.keys → StopsReading list upto ranges.now names (key_shown key) fault) }
     ensures calm { IfErr result IsCalm }
 {
     if !counts(upto, ranges, &key.it) {

@@ -3,7 +3,7 @@ ghost use Rattle.std.specs.Prelude.{◌≡◌, ◌<◌, ◌≤◌, ◌+◌, ◌^
 ghost use Rattle.std.specs.List.{AllByRecursion};
 ghost use Rattle.gor_model.specs.PlainMap.{greatest};
 ghost use Rattle.gor_model.specs.Windows.{slots_of_a_shard};
-ghost use Rattle.gor_image.specs.Recovery.{ShardMap, number_in};
+ghost use Rattle.gor_image.specs.Recovery.{ShardMap, change_number_in};
 ghost use Rattle.gor_image.specs.Images.{slots_needed, with_limits};
 ghost use Rattle.gor_recover.specs.Openings.{IsMet};
 ghost use Rattle.gor_recover.specs.Parts.{key_shown};
@@ -23,7 +23,7 @@ use gor_marks::Mark;
 use std::alloc::Global;
 
 fn number_of(it: &KeyRecord) -> u64
-    ensures { result ≡ unwrap_or (number_in it.now) 0 }
+    ensures { result ≡ unwrap_or (change_number_in it.now) 0 }
 {
     match it {
         KeyRecord::Create { number, .. } => *number,
@@ -37,7 +37,7 @@ fn number_of(it: &KeyRecord) -> u64
 fn greatest_number(from: u64, keys: &[PlacedKey]) -> u64
     requires from { from < 2 ^ 63 }
     requires keys { AreKeysAt (map key_shown keys.now) }
-    ensures greatest { result ≡ greatest from (filter_map (λ r. number_in r.it) (map key_shown keys.now)) }
+    ensures greatest { result ≡ greatest from (filter_map (λ r. change_number_in r.it) (map key_shown keys.now)) }
     ensures below { result < 2 ^ 63 }
 {
     let mut greatest = from;

@@ -2,9 +2,9 @@
 ghost use Rattle.std.specs.Prelude.{◌≡◌, ◌<◌, [], map, OnOk, IfOk, IfSome, IfNone, false, length, IsTrue, ⊤};
 ghost use Rattle.std.specs.List.{AllByRecursion, IsAmong, list_any};
 ghost use Rattle.gor_image.specs.Recovery as spec;
-ghost use Rattle.gor_recover.specs.Gathering.{IsBegun, HasSeries, has_uid, with_put, with_seal, each_with_row, each_with_rows, each_with_record, each_with_batch, each_with_batches};
+ghost use Rattle.gor_recover.specs.Gathering.{HasGatheredNothing, SeriesIsThere, has_uid, with_gathered_put, with_seal, each_with_row, each_with_rows, each_with_record, each_with_batch, each_with_batches};
 ghost use Rattle.gor_recover.specs.Placing.{IsPlaceOf, BeginsMore};
-ghost use Rattle.gor_recover.specs.Parts.{record_shown, batch_shown, row_shown};
+ghost use Rattle.gor_recover.specs.Parts.{record_shown, batch_shown, block_row_shown};
 
 use crate::gather::{Gathered, Spot, is_above};
 use crate::records::{BlockPart, LogPart, PlacedKey, PlacedLog};
@@ -76,7 +76,7 @@ impl Series {
 
     /// Begins the series that a record of a key list may begin.
     fn begin_of(&mut self, alloc: Global, it: &KeyRecord) -> Result<(), AllocError>
-        ensures has { OnOk result (HasSeries self.new it.now) }
+        ensures has { OnOk result (SeriesIsThere self.new it.now) }
         ensures more { OnOk result (BeginsMore self.old self.new) }
     {
         match it {
@@ -88,8 +88,8 @@ impl Series {
 
     /// The series that the records of a key list may begin, with nothing gathered yet.
     pub(crate) fn begun(alloc: Global, keys: &[PlacedKey]) -> Result<Series, AllocError>
-        ensures begun { IfOk result (λ s. AllByRecursion IsBegun s) }
-        ensures has { IfOk result (λ s. AllByRecursion (λ k. HasSeries s k.it) keys.now) }
+        ensures begun { IfOk result (λ s. AllByRecursion HasGatheredNothing s) }
+        ensures has { IfOk result (λ s. AllByRecursion (λ k. SeriesIsThere s k.it) keys.now) }
     {
         let mut series = Series::new(alloc);
         for key in keys {
@@ -111,7 +111,7 @@ impl Series {
 
     /// Adds the points of a row of a block file, if its series is there.
     fn add_row(&mut self, row: &BlockPart) -> Result<(), AllocError>
-        ensures { OnOk result (self.new ≡ each_with_row self.old (row_shown row.now)) }
+        ensures { OnOk result (self.new ≡ each_with_row self.old (block_row_shown row.now)) }
     {
         match self.place(row.uid) {
             Some(at) => {
@@ -127,7 +127,7 @@ impl Series {
 
     /// Adds the points of some rows of block files. Rows of other series are passed over.
     pub(crate) fn add_rows(&mut self, rows: &[BlockPart]) -> Result<(), AllocError>
-        ensures { OnOk result (self.new ≡ each_with_rows self.old (map row_shown rows.now)) }
+        ensures { OnOk result (self.new ≡ each_with_rows self.old (map block_row_shown rows.now)) }
     {
         for row in rows {
             self.add_row(row)?;
@@ -143,7 +143,7 @@ impl Series {
         uid: u64,
         point: Point,
     ) -> Result<(), AllocError>
-        ensures { OnOk result (self.new ≡ map (with_put base spot uid point) self.old) }
+        ensures { OnOk result (self.new ≡ map (with_gathered_put base spot uid point) self.old) }
     {
         if !is_window_above(base, window_of(point.time)) {
             return Ok(());

@@ -13,7 +13,7 @@ places_code {T} code =
     code_by (ℕ × List (Option T)) (coded× coded_ℕ (coded_list (coded_option code))) (λ r. (r.first, r.items)) (λ p. record { first = p.0; items = p.1 }) (λ _. refl)
 
 -- the windows that have a place
-pub record IsInRange (first window : ℕ) : Type 0 where
+pub record WindowHasPlace (first window : ℕ) : Type 0 where
   pub from : first ≤ window
   pub to : window < first + 12
 

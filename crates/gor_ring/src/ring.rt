@@ -1,7 +1,7 @@
 //! A map from twelve windows in a row to items.
 ghost use Rattle.std.specs.Prelude.{◌≡◌, ℕ, ◌≤◌, nat_eq, nat_le, length, option_map, if◌then◌else◌};
 ghost use Rattle.std.specs.Option.{option_copied};
-ghost use Rattle.gor_ring.specs.Places.{IsInRange, item_at, empty, with_item, shifted, advanced};
+ghost use Rattle.gor_ring.specs.Places.{WindowHasPlace, item_at, empty, with_item, shifted, advanced};
 
 use arrayvec::ArrayVec;
 use std::marker::Model;
@@ -63,7 +63,7 @@ impl<T: Drop> Ring<T> {
 
     /// Puts an item at a window, and gives the one that stood there.
     pub fn put(&mut self, window: u32, item: T) -> Option<T>
-        requires { IsInRange self.old.first window }
+        requires { WindowHasPlace self.old.first window }
         ensures ring { self.new ≡ with_item window item self.old }
         ensures value { result ≡ item_at self.old window }
         ensures map { (w : ℕ) → item_at self.new w ≡ (if nat_eq w window then Some item else item_at self.old w) }

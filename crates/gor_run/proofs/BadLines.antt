@@ -9,10 +9,10 @@ use Rattle.gor_text.specs.declared.workload.Item.{Item}
 use Rattle.gor_text.specs.Grammar.{lines_of, item_of}
 use Rattle.gor_text.specs.Workloads.{is_good_line, IsWorkloadText, IsFirstBad}
 use Rattle.gor_run.specs.TakenLines.{is_taken_item}
-use Rattle.gor_run.specs.Inputs.{IsWhole}
+use Rattle.gor_run.specs.Inputs.{IsWholeInput}
 
 -- a source that tells its bytes was read to just these
-pub same_input : (before after : Option (List ℕ)) (bytes input : List ℕ) → IsWhole before after bytes → before ≡ Some input → bytes ≡ input
+pub same_input : (before after : Option (List ℕ)) (bytes input : List ℕ) → IsWholeInput before after bytes → before ≡ Some input → bytes ≡ input
 same_input before after bytes input whole is = at after (subst (λ b. Consumes b after bytes) is whole.given) whole.ended where
   at : (left : Option (List ℕ)) → Consumes (Some input) left bytes → IsAtEnd left → bytes ≡ input
   at None given ended = absurd given

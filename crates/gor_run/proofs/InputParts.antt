@@ -1,7 +1,7 @@
 -- An input that is read piece by piece.
 use Rattle.std.proofs.Common.{◌≡◌, ℕ, ◌+◌, ◌<◌, ◌≤◌, List, [], ◌++◌, length, Option, refl, sym, subst, ◌∙◌, arith}
 use Rattle.std.specs.Io.KnownBytes.{Consumes, IsAtEnd}
-use Rattle.gor_run.specs.Inputs.{IsWhole}
+use Rattle.gor_run.specs.Inputs.{IsWholeInput}
 use Rattle.gor_run.proofs.KnownParts.{consumed_none, consumed_twice}
 
 -- so many turns gave these bytes, at least one each
@@ -38,7 +38,7 @@ goes_on before after later faults now then reads count counted bytes more turns 
 }
 
 pub whole_at_end : (before after later : Option (List ℕ)) (faults now reads count : ℕ) (bytes more : List ℕ) (turns : ℕ) → ReadSoFar before after faults now reads count bytes turns
-    → (given : List ℕ) × Consumes after later given × (more ≡ bytes ++ given) → IsAtEnd later → more ≡ bytes → IsWhole before later more
+    → (given : List ℕ) × Consumes after later given × (more ≡ bytes ++ given) → IsAtEnd later → more ≡ bytes → IsWholeInput before later more
 whole_at_end before after later faults now reads count bytes more turns r last end same = record {
   given = all_given before after later faults now reads count bytes more turns r last;
   ended = end;

@@ -1,7 +1,6 @@
 -- What a run of one lane wrote is the only text that answers it.
 use Rattle.std.proofs.Common.{◌≡◌, ℕ, zero, suc, ◌<◌, List, [], ◌∷◌, ◌++◌, Bool, true, false, ◌||◌, refl, sym, ap, subst, ◌∙◌, arith}
-use Rattle.gor_disk.specs.Disk.{DiskView}
-use Rattle.gor_disk.specs.Disk as disk
+use Rattle.gor_disk.specs.Disk.{DiskView, Rose}
 use Rattle.gor_model.specs.declared.start.Start.{Start}
 use Rattle.gor_model.specs.Changes.{History}
 use Rattle.gor_model.specs.Starts.{IsStart}
@@ -12,7 +11,7 @@ use Rattle.gor_store.specs.Sessions.{IsToldBy}
 use Rattle.gor_store.specs.Shards.{BeginsFrom}
 use Rattle.gor_store.proofs.InOrder.{is_start}
 use Rattle.gor_run.specs.Dumps.{CallsFirst}
-use Rattle.gor_run.specs.Runs.{Answers, IsOnlyText, Ran, WritesOneText}
+use Rattle.gor_run.specs.Runs.{RunAnswers, IsOnlyText, Ran, WritesOneText}
 
 pub first_also : {D : Type 0} (P Q : D → D → Type 0) → ((disk now : D) → P disk now → Q disk now) → (disks others : List D) → CallsFirst P disks others → CallsFirst Q disks others
 first_also P Q gives [] [] first = absurd first
@@ -41,13 +40,13 @@ module _ {D : Type 0} (tells : Bool) (view : D → DiskView) (faults : D → ℕ
   starts : (slots : ℕ) (seen : DiskView) (count : ℕ) (start : Start) → BeginsFrom 1 0 slots tells seen count start → IsStart start
   starts slots seen count start begins = subst IsStart (sym begins.same) (is_start slots begins.recovered _ _ _ _ _ (begins.sound.start begins.few))
 
-  still : (h : History) (old new : D) → (is_stopped h ≡ true → disk.Rose (faults old) (faults new)) → (disk.Rose (faults old) (faults new) → ⊥) → is_stopped h ≡ false
+  still : (h : History) (old new : D) → (is_stopped h ≡ true → Rose (faults old) (faults new)) → (Rose (faults old) (faults new) → ⊥) → is_stopped h ≡ false
   still h old new rose quiet = by (is_stopped h) refl where
     by : (b : Bool) → is_stopped h ≡ b → is_stopped h ≡ false
     by true is = absurd (quiet (rose is))
     by false is = is
 
-pub writes_one_text : {D : Type 0} (run : Ran D) (old new : D) → Answers run old new → (disk.Rose (run.disk.faults old) (run.disk.faults new) → ⊥) → WritesOneText run old new
+pub writes_one_text : {D : Type 0} (run : Ran D) (old new : D) → RunAnswers run old new → (Rose (run.disk.faults old) (run.disk.faults new) → ⊥) → WritesOneText run old new
 writes_one_text run old new a quiet =
     let whole = a.ends.whole in record {
       slots = a.slots;

@@ -17,11 +17,11 @@ use Rattle.gor_text.specs.Transcripts.{Served, phase_text_from, text_of}
 use Rattle.gor_text.proofs.ActAnswers.{phase_told}
 use Rattle.gor_text.specs.declared.answer.LaneAnswer.{LaneAnswer}
 use Rattle.gor_text.specs.declared.workload.Line.{Line}
-use Rattle.gor_outside.specs.Causes.{Rose}
+use Rattle.gor_outside.specs.Causes.{CountRose}
 use Rattle.gor_store.specs.LineParts.{ArePart}
 use Rattle.gor_store.specs.Phases.{RanPhase, RanInPart, lines_at}
 use Rattle.gor_store.specs.Sessions.{HaveServed}
-use Rattle.gor_store.specs.Stores.{HasLeft, HasLeftFor, ClosingHasLeft, HasMadeNothing, IsAtRest, IsSameStore, events_of, lines_of_lanes, passes_of}
+use Rattle.gor_store.specs.Stores.{PassesHaveLeft, HasLeftFor, ClosingHasLeft, HasMadeNothing, IsAtRest, IsSameStore, events_of, lines_of_lanes, passes_of_store}
 use Rattle.gor_store.specs.Stories.{AllFrom, AreRuns, LaneRun, count_all, events_at, numbers_of, served_in}
 use Rattle.gor_store.specs.Works.{HaveAdded, nothing}
 use Rattle.gor_store.specs.declared.store.Store.{Store}
@@ -184,7 +184,7 @@ ran_in_part lanes before olds news told r = record {
 
 -- ---- the loop over phases
 
-pub fewer_left : {D : Type 0} (store : Store D) (n m : ℕ) → HasLeft n store → m ≤ n → HasLeft m store
+pub fewer_left : {D : Type 0} (store : Store D) (n m : ℕ) → PassesHaveLeft n store → m ≤ n → PassesHaveLeft m store
 fewer_left store n m left few = λ k p at. let l = left k p at in omega (arith, l, few)
 
 pub same_store_twice : {D : Type 0} (a b c : Store D) → IsSameStore a b → IsSameStore b c → IsSameStore a c
@@ -194,20 +194,20 @@ same_store_twice a b c first second = record { hall = second.hall ∙ first.hall
 pub record PhasesSoFar {D : Type 0} (old now : Store D) (held grown : Option (List ℕ)) (before after : ℕ) (rest phases : List (List (List Line))) : Type 0 where
   pub rests : IsAtRest now
   pub same : IsSameStore old now
-  pub left : HasLeft (16388 + 32779 * lines_of_phases rest) now
+  pub left : PassesHaveLeft (16388 + 32779 * lines_of_phases rest) now
   pub done : List (List (List Line))
   pub parts : phases ≡ done ++ rest
   pub text : List ℕ
-  pub served : HaveServed (passes_of now) done nothing text
+  pub served : HaveServed (passes_of_store now) done nothing text
   pub appended : Appends held grown text
   pub quiet : after ≡ before
 
-nine_passes : {D : Type 0} (store : Store D) → IsAtRest store → length (passes_of store) ≡ 9
+nine_passes : {D : Type 0} (store : Store D) → IsAtRest store → length (passes_of_store store) ≡ 9
 nine_passes store rests =
     length-append (map (λ l. l.pass) store.lanes.items) (store.closing ∷ [])
     ∙ (let m = length-map store.lanes.items (λ l. l.pass) in let e = rests.eight in omega arith)
 
-pub no_phases_yet : {D : Type 0} (store : Store D) (held : Option (List ℕ)) (faults : ℕ) (phases : List (List (List Line))) → IsAtRest store → HasMadeNothing store → HasLeft (2 ^ 40) store
+pub no_phases_yet : {D : Type 0} (store : Store D) (held : Option (List ℕ)) (faults : ℕ) (phases : List (List (List Line))) → IsAtRest store → HasMadeNothing store → PassesHaveLeft (2 ^ 40) store
     → lines_of_phases phases ≤ 16777217 → PhasesSoFar store store held held faults faults phases phases
 no_phases_yet store held faults phases rests fresh left few = record {
   rests = rests;
@@ -216,7 +216,7 @@ no_phases_yet store held faults phases rests fresh left few = record {
   done = [];
   parts = refl;
   text = [];
-  served = passes_start (passes_of store) (nine_passes store rests) (λ k p at. ((rests.each k p at).0, fresh k p at));
+  served = passes_start (passes_of_store store) (nine_passes store rests) (λ k p at. ((rests.each k p at).0, fresh k p at));
   appended = grown_by_none held;
   quiet = refl;
 }
@@ -232,14 +232,14 @@ module _ {D : Type 0} (old now next : Store D) (held grown : Option (List ℕ)) 
   parted : phases ≡ (so_far.done ++ lanes ∷ []) ++ rest
   parted = so_far.parts ∙ (ap (λ (l : List (List (List Line))). so_far.done ++ l) first ∙ sym (append_assoc so_far.done (lanes ∷ []) rest))
 
-  module _ (same : IsSameStore now next) (leaves : (n : ℕ) → HasLeft (n + 3 * lines_of_lanes lanes) now → HasLeft n next) where
+  module _ (same : IsSameStore now next) (leaves : (n : ℕ) → PassesHaveLeft (n + 3 * lines_of_lanes lanes) now → PassesHaveLeft n next) where
     pub still_left : ClosingHasLeft 16388 next
     still_left = closing_left 16388 next (leaves 16388 (fewer_left now (16388 + 32779 * lines_of_phases left) (16388 + 3 * lines_of_lanes lanes) so_far.left (let c = counts in omega arith)))
 
     pub still_same : IsSameStore old next
     still_same = same_store_twice old now next so_far.same same
 
-    pub one_phase : (more : Option (List ℕ)) (later : ℕ) (text : List ℕ) → IsAtRest next → AnswersPhase lanes (events_of now) (passes_of now) (passes_of next) text → Appends grown more text → later ≡ after
+    pub one_phase : (more : Option (List ℕ)) (later : ℕ) (text : List ℕ) → IsAtRest next → AnswersPhase lanes (events_of now) (passes_of_store now) (passes_of_store next) text → Appends grown more text → later ≡ after
         → PhasesSoFar old next held more before later rest phases
     one_phase more later text rests answers appends quiet = record {
       rests = rests;
@@ -249,34 +249,34 @@ module _ {D : Type 0} (old now next : Store D) (held grown : Option (List ℕ)) 
       done = so_far.done ++ lanes ∷ [];
       parts = parted;
       text = so_far.text ++ text;
-      served = served_more (passes_of now) (passes_of next) so_far.done lanes so_far.text text so_far.served answers;
+      served = served_more (passes_of_store now) (passes_of_store next) so_far.done lanes so_far.text text so_far.served answers;
       appended = grown_twice held grown more so_far.text text so_far.appended appends;
       quiet = quiet ∙ so_far.quiet;
     }
 
-  pub phase_in_part : (more : Option (List ℕ)) (text : List ℕ) → AnswersPhase lanes (events_of now) (passes_of now) (passes_of next) text → AppendsPart grown more text → WroteInPart (passes_of next) phases held more
+  pub phase_in_part : (more : Option (List ℕ)) (text : List ℕ) → AnswersPhase lanes (events_of now) (passes_of_store now) (passes_of_store next) text → AppendsPart grown more text → WroteInPart (passes_of_store next) phases held more
   phase_in_part more text answers part = record {
     run = so_far.done ++ lanes ∷ [];
     rest = rest;
     parts = parted;
     text = so_far.text ++ text;
-    served = served_more (passes_of now) (passes_of next) so_far.done lanes so_far.text text so_far.served answers;
-    appended = part_more (passes_of now) (passes_of next) so_far.done lanes so_far.text text held grown more so_far.served answers so_far.appended part;
+    served = served_more (passes_of_store now) (passes_of_store next) so_far.done lanes so_far.text text so_far.served answers;
+    appended = part_more (passes_of_store now) (passes_of_store next) so_far.done lanes so_far.text text held grown more so_far.served answers so_far.appended part;
   }
 
-  pub no_memory : RanInPart lanes (events_of now) (passes_of now) (passes_of next) → WroteUntil (passes_of next) phases held grown
+  pub no_memory : RanInPart lanes (events_of now) (passes_of_store now) (passes_of_store next) → WroteUntil (passes_of_store next) phases held grown
   no_memory part =
-      served_in_part (passes_of now) (passes_of next) so_far.done lanes rest phases so_far.text held grown so_far.served part
+      served_in_part (passes_of_store now) (passes_of_store next) so_far.done lanes rest phases so_far.text held grown so_far.served part
       (so_far.parts ∙ ap (λ (l : List (List (List Line))). so_far.done ++ l) first) so_far.appended
 
-  pub rose_since : (later : ℕ) → Rose after later → Rose before later
-  rose_since later rose = subst (λ (n : ℕ). Rose n later) so_far.quiet rose
+  pub rose_since : (later : ℕ) → CountRose after later → CountRose before later
+  rose_since later rose = subst (λ (n : ℕ). CountRose n later) so_far.quiet rose
 
 pub all_phases : {D : Type 0} (old now : Store D) (held grown : Option (List ℕ)) (before after : ℕ) (rest phases : List (List (List Line))) → rest ≡ [] → PhasesSoFar old now held grown before after rest phases
-    → WroteAll (passes_of now) phases held grown
+    → WroteAll (passes_of_store now) phases held grown
 all_phases old now held grown before after rest phases none so_far =
     let whole : phases ≡ so_far.done = so_far.parts ∙ (ap (λ (l : List (List (List Line))). so_far.done ++ l) none ∙ append-nil so_far.done) in
-    record { text = so_far.text; served = subst (λ (ps : List (List (List Line))). HaveServed (passes_of now) ps nothing so_far.text) (sym whole) so_far.served; appended = so_far.appended }
+    record { text = so_far.text; served = subst (λ (ps : List (List (List Line))). HaveServed (passes_of_store now) ps nothing so_far.text) (sym whole) so_far.served; appended = so_far.appended }
 
 pub end_left : {D : Type 0} (old now : Store D) (held grown : Option (List ℕ)) (before after : ℕ) (rest phases : List (List (List Line))) → PhasesSoFar old now held grown before after rest phases → ClosingHasLeft 16388 now
 end_left old now held grown before after rest phases so_far = closing_left 16388 now (fewer_left now (16388 + 32779 * lines_of_phases rest) 16388 so_far.left (omega arith))

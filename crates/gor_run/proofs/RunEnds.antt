@@ -3,14 +3,13 @@ use Rattle.std.proofs.Common.{◌≡◌, ◌⊎◌, inl, inr, ℕ, List, ◌∷�
 use Rattle.std.specs.Prelude.{IsOk}
 use Rattle.std.proofs.lemmas.Bool.{false≢true}
 use Rattle.std.specs.Io.KnownBytes.{Keeps}
-use Rattle.gor_disk.specs.Disk.{DiskView}
-use Rattle.gor_disk.specs.Disk as disk
+use Rattle.gor_disk.specs.Disk.{DiskView, Rose}
 use Rattle.gor_image.specs.declared.fault.ImageFault.{ImageFault}
 use Rattle.gor_recover.specs.declared.recovered.OpenFault.{OpenFault}
 use Rattle.gor_recover.specs.declared.recovered.OpenFault.TheVariants as refused
 use Rattle.gor_image.specs.Images.{opens_to}
 use Rattle.gor_model.specs.declared.start.Start.{Start}
-use Rattle.gor_outside.specs.Causes.{Rose}
+use Rattle.gor_outside.specs.Causes.{CountRose}
 use Rattle.gor_text.specs.declared.workload.Line.{Line}
 use Rattle.gor_store.specs.Shards.{BeginsFrom}
 use Rattle.gor_hall.specs.Halls.{start_of}
@@ -19,15 +18,15 @@ use Rattle.gor_store.specs.declared.store.Store.{Store}
 use Rattle.gor_store.specs.declared.store.NotStored.{NotStored}
 use Rattle.gor_run.specs.Dumps.{CallsFirst, EndsAs, FaultShows}
 use Rattle.gor_run.specs.Ends.{BrokeOff, MeetsDeviceFault, MeetsImageFault, OnFirst, WantedMemory}
-use Rattle.gor_run.specs.Runs.{IsAsked, Ran, Answers, Stops, BreaksOff, IsUnopened}
+use Rattle.gor_run.specs.Runs.{IsAsked, Ran, RunAnswers, RunStops, BreaksOff, IsUnopened}
 use Rattle.gor_run.specs.Serving.{EndsBy, unopened_status}
-use Rattle.gor_run.specs.Statuses.{IsRead, CallsNoDisk, WritesNothing}
+use Rattle.gor_run.specs.Statuses.{SourceIsRead, CallsNoDisk, WritesNothing}
 use Rattle.gor_run.specs.Words.{slots_of_run}
 use Rattle.gor_run.specs.declared.status.Status.{Status}
 use Rattle.gor_run.specs.declared.status.Status.TheVariants as status
 use Rattle.gor_run.proofs.RunSteps.{HasFirst, calls_first, calls_as, calls_any, calls_known}
 
-asked_for : (words : List (List ℕ)) (before after : Option (List ℕ)) (slots : ℕ) (phases : List (List (List Line))) → slots_of_run words ≡ Some slots → IsRead before after phases → IsAsked words before after slots phases
+asked_for : (words : List (List ℕ)) (before after : Option (List ℕ)) (slots : ℕ) (phases : List (List (List Line))) → slots_of_run words ≡ Some slots → SourceIsRead before after phases → IsAsked words before after slots phases
 asked_for words before after slots phases asked read = record { input = read.input; asked = asked; read = read.whole; said = read.said }
 
 -- ---- a store that was opened
@@ -50,14 +49,14 @@ opened_first run slots store P f begins calls =
     let b = begins f.first f.others f.are in
     subst (λ (ds : List _). CallsFirst (P slots) ds run.backs) (ap (λ (others : List _). f.first ∷ others) b.0 ∙ sym f.are) (calls f.first slots b.2)
 
-pub was_opened : {D : Type 0} (run : Ran D) (slots : ℕ) (phases said : List (List (List Line))) → phases ≡ said → slots_of_run run.words ≡ Some slots → IsRead run.left_before run.left_after said
+pub was_opened : {D : Type 0} (run : Ran D) (slots : ℕ) (phases said : List (List (List Line))) → phases ≡ said → slots_of_run run.words ≡ Some slots → SourceIsRead run.left_before run.left_after said
     → (store : Store D) (f : HasFirst run.disks)
     → ((first : D) (others : List D) → run.disks ≡ first ∷ others → (others_of store ≡ others) × ((start_of store.hall).slots ≡ slots) × BeginsFrom 1 0 slots run.disk.tells (run.disk.view first) (run.disk.faults first) (start_of store.hall))
     → ((first : D) (n : ℕ) → BeginsFrom 1 0 n run.disk.tells (run.disk.view first) (run.disk.faults first) (start_of store.hall) → CallsFirst (Ending run n phases run.status) (first ∷ others_of store) run.backs)
     → WasOpened run slots
 was_opened run slots phases said same named read store f begins calls = record {
   phases = phases;
-  asked = asked_for run.words run.left_before run.left_after slots phases named (subst (IsRead run.left_before run.left_after) (sym same) read);
+  asked = asked_for run.words run.left_before run.left_after slots phases named (subst (SourceIsRead run.left_before run.left_after) (sym same) read);
   calls = opened_first run slots store (λ n. Ending run n phases run.status) f begins calls;
 }
 
@@ -72,8 +71,8 @@ module _ {D : Type 0} {run : Ran D} {slots : ℕ} (o : WasOpened run slots) wher
   pub none_other : (t : Status) → ((first now : D) → Ended t first now → ⊥) → run.status ≡ t → ⊥
   none_other t never is = calls_any (Ended t) ⊥ run.disks run.backs never (as_status t is)
 
-  pub opened_answered : run.status ≡ status.Ok → OnFirst Answers run
-  opened_answered is = calls_as (Ended status.Ok) (Answers run) run.disks run.backs
+  pub opened_answered : run.status ≡ status.Ok → OnFirst RunAnswers run
+  opened_answered is = calls_as (Ended status.Ok) (RunAnswers run) run.disks run.backs
       (λ first now e. record { slots = slots; phases = o.phases; asked = o.asked; ends = e.0 }) (as_status status.Ok is)
 
   pub opened_quiet : run.status ≡ status.Ok → run.faults_after ≡ run.faults_before
@@ -85,7 +84,7 @@ module _ {D : Type 0} {run : Ran D} {slots : ℕ} (o : WasOpened run slots) wher
 
   pub opened_write : run.status ≡ status.WriteFault → BrokeOff run
   opened_write is = (
-    calls_any (Ended status.WriteFault) (Rose run.faults_before run.faults_after) run.disks run.backs (λ first now e. e.1) (as_status status.WriteFault is),
+    calls_any (Ended status.WriteFault) (CountRose run.faults_before run.faults_after) run.disks run.backs (λ first now e. e.1) (as_status status.WriteFault is),
     calls_as (Ended status.WriteFault) (BreaksOff run) run.disks run.backs
         (λ first now e. record { slots = slots; phases = o.phases; asked = o.asked; ends = e.0 }) (as_status status.WriteFault is),
   )
@@ -125,7 +124,7 @@ module _ {D : Type 0} {run : Ran D} {slots : ℕ} (o : WasOpened run slots) wher
   pub opened_calls : CallsNoDisk run.status → ⊥
   opened_calls never = calls_any (Ended run.status) ⊥ run.disks run.backs (called run.status never) o.calls
 
-  ends_well : (t : Status) (first now : D) → ¬ (Rose run.faults_before run.faults_after) → ¬ (disk.Rose (run.disk.faults first) (run.disk.faults now)) → Ended t first now
+  ends_well : (t : Status) (first now : D) → ¬ (CountRose run.faults_before run.faults_after) → ¬ (Rose (run.disk.faults first) (run.disk.faults now)) → Ended t first now
       → (t ≡ status.Ok) ⊎ (t ≡ status.NoMemory)
   ends_well status.Ok first now quiet still e = inl refl
   ends_well (status.DeviceFault shard) first now quiet still e = absurd (still e.1)
@@ -137,8 +136,8 @@ module _ {D : Type 0} {run : Ran D} {slots : ℕ} (o : WasOpened run slots) wher
   ends_well (status.BadLine line) first now quiet still e = absurd e
   ends_well (status.NotOpened shard fault) first now quiet still e = absurd e
 
-  pub opened_complete : (n : ℕ) → ¬ (Rose run.faults_before run.faults_after)
-      → CallsFirst (λ first now. IsTrue run.disk.tells → ¬ (disk.Rose (run.disk.faults first) (run.disk.faults now)) → IsOk (opens_to (run.disk.view first).seen 1 0 n) → EndsAs status.Ok run.status) run.disks run.backs
+  pub opened_complete : (n : ℕ) → ¬ (CountRose run.faults_before run.faults_after)
+      → CallsFirst (λ first now. IsTrue run.disk.tells → ¬ (Rose (run.disk.faults first) (run.disk.faults now)) → IsOk (opens_to (run.disk.view first).seen 1 0 n) → EndsAs status.Ok run.status) run.disks run.backs
   opened_complete n quiet = calls_as (Ended run.status) _ run.disks run.backs (λ first now e told still opens. ends_well run.status first now quiet still e) o.calls
 
 -- files from which a history begins are not refused
@@ -168,7 +167,7 @@ pub record IsNotOpened {D : Type 0} (run : Ran D) : Type 0 where
   pub status_is : run.status ≡ unopened_status 0 fault
   pub was : WasRefused 1 0 slots run.disk.tells run.disk.view run.disk.faults fault first back
 
-pub not_opened : {D : Type 0} (run : Ran D) (slots : ℕ) (phases : List (List (List Line))) → slots_of_run run.words ≡ Some slots → IsRead run.left_before run.left_after phases → (e : NotStored D) (f : HasFirst run.disks)
+pub not_opened : {D : Type 0} (run : Ran D) (slots : ℕ) (phases : List (List (List Line))) → slots_of_run run.words ≡ Some slots → SourceIsRead run.left_before run.left_after phases → (e : NotStored D) (f : HasFirst run.disks)
     → ((first : D) (others : List D) → run.disks ≡ first ∷ others → (e.shard ≡ 0) × (back : D) × (e.disks.items ≡ back ∷ others) × WasRefused 1 0 slots run.disk.tells run.disk.view run.disk.faults e.fault first back)
     → run.status ≡ unopened_status e.shard e.fault → run.backs ≡ e.disks.items → IsNotOpened run
 not_opened run slots phases named read e f refused is same =
@@ -221,8 +220,8 @@ module _ {D : Type 0} {run : Ran D} (u : IsNotOpened run) where
   unopened_device shard keeps quiet is =
       calls_first _ u.first u.back u.others run.disks run.backs u.are u.come (at u.fault u.was (sym u.status_is ∙ is)) where
         at : (fault : OpenFault) → WasRefused 1 0 u.slots run.disk.tells run.disk.view run.disk.faults fault u.first u.back → unopened_status 0 fault ≡ status.DeviceFault shard
-            → (shard ≡ 0) × disk.Rose (run.disk.faults u.first) (run.disk.faults u.back) × ((IsUnopened run refused.Disk u.first u.back × Keeps run.held_before run.held_after × (run.faults_after ≡ run.faults_before))
-            ⊎ Stops run u.first u.back)
+            → (shard ≡ 0) × Rose (run.disk.faults u.first) (run.disk.faults u.back) × ((IsUnopened run refused.Disk u.first u.back × Keeps run.held_before run.held_after × (run.faults_after ≡ run.faults_before))
+            ⊎ RunStops run u.first u.back)
         at (refused.Image fault) was same = absurd (cc)
         at refused.Disk was same = ((let own : 0 ≡ shard = cc in sym own), was.cause, inl (one_of refused.Disk was, keeps, quiet))
         at refused.NoMemory was same = absurd (cc)
@@ -250,7 +249,7 @@ module _ {D : Type 0} {run : Ran D} (u : IsNotOpened run) where
   unopened_refused n fault named =
       calls_first (FaultShows run.disk n fault run.status) u.first u.back u.others run.disks run.backs u.are u.come (at u.fault u.was u.status_is) where
         at : (found : OpenFault) → WasRefused 1 0 u.slots run.disk.tells run.disk.view run.disk.faults found u.first u.back → run.status ≡ unopened_status 0 found
-            → IsTrue run.disk.tells → ¬ (disk.Rose (run.disk.faults u.first) (run.disk.faults u.back)) → opens_to (run.disk.view u.first).seen 1 0 n ≡ Err fault → (run.status ≡ status.NotOpened 0 fault) ⊎ (run.status ≡ status.NoMemory)
+            → IsTrue run.disk.tells → ¬ (Rose (run.disk.faults u.first) (run.disk.faults u.back)) → opens_to (run.disk.view u.first).seen 1 0 n ≡ Err fault → (run.status ≡ status.NotOpened 0 fault) ⊎ (run.status ≡ status.NoMemory)
         at (refused.Image image) was is told still refuses =
             let both : Err image ≡ Err fault = sym (was.err told) ∙ (ap (λ (k : ℕ). opens_to (run.disk.view u.first).seen 1 0 k) (slots_same n named) ∙ refuses) in
             let one : image ≡ fault = cc in
@@ -259,12 +258,12 @@ module _ {D : Type 0} {run : Ran D} (u : IsNotOpened run) where
         at refused.NoMemory was is told still refuses = inr is
 
   pub unopened_complete : (n : ℕ) → slots_of_run run.words ≡ Some n
-      → CallsFirst (λ first now. IsTrue run.disk.tells → ¬ (disk.Rose (run.disk.faults first) (run.disk.faults now)) → IsOk (opens_to (run.disk.view first).seen 1 0 n) → (run.status ≡ status.Ok) ⊎ (run.status ≡ status.NoMemory)) run.disks run.backs
+      → CallsFirst (λ first now. IsTrue run.disk.tells → ¬ (Rose (run.disk.faults first) (run.disk.faults now)) → IsOk (opens_to (run.disk.view first).seen 1 0 n) → (run.status ≡ status.Ok) ⊎ (run.status ≡ status.NoMemory)) run.disks run.backs
   unopened_complete n named =
-      calls_first (λ first now. IsTrue run.disk.tells → ¬ (disk.Rose (run.disk.faults first) (run.disk.faults now)) → IsOk (opens_to (run.disk.view first).seen 1 0 n) → (run.status ≡ status.Ok) ⊎ (run.status ≡ status.NoMemory))
+      calls_first (λ first now. IsTrue run.disk.tells → ¬ (Rose (run.disk.faults first) (run.disk.faults now)) → IsOk (opens_to (run.disk.view first).seen 1 0 n) → (run.status ≡ status.Ok) ⊎ (run.status ≡ status.NoMemory))
       u.first u.back u.others run.disks run.backs u.are u.come (at u.fault u.was u.status_is) where
         at : (found : OpenFault) → WasRefused 1 0 u.slots run.disk.tells run.disk.view run.disk.faults found u.first u.back → run.status ≡ unopened_status 0 found
-            → IsTrue run.disk.tells → ¬ (disk.Rose (run.disk.faults u.first) (run.disk.faults u.back)) → IsOk (opens_to (run.disk.view u.first).seen 1 0 n) → (run.status ≡ status.Ok) ⊎ (run.status ≡ status.NoMemory)
+            → IsTrue run.disk.tells → ¬ (Rose (run.disk.faults u.first) (run.disk.faults u.back)) → IsOk (opens_to (run.disk.view u.first).seen 1 0 n) → (run.status ≡ status.Ok) ⊎ (run.status ≡ status.NoMemory)
         at (refused.Image image) was is told still opens =
             let refuses : opens_to (run.disk.view u.first).seen 1 0 n ≡ Err image = ap (λ (k : ℕ). opens_to (run.disk.view u.first).seen 1 0 k) (sym (slots_same n named)) ∙ was.err told in
             absurd (false≢true (subst IsOk refuses opens))

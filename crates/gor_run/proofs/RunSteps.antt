@@ -5,19 +5,19 @@ use Rattle.std.specs.Io.KnownBytes.{Consumes, Keeps}
 use Rattle.std.specs.Str.{bytes_eq}
 use Rattle.std.proofs.lemmas.Bool.{and_parts, leb-true}
 use Rattle.std.proofs.lemmas.List.{length-append}
-use Rattle.gor_outside.specs.Causes.{Rose}
+use Rattle.gor_outside.specs.Causes.{CountRose}
 use Rattle.gor_text.specs.declared.workload.Line.{Line}
 use Rattle.gor_text.specs.Workloads.{IsWorkloadText, IsFirstBad}
 use Rattle.gor_run.specs.Dumps.{CallsFirst}
-use Rattle.gor_run.specs.Inputs.{IsWhole, IsTooLong, most_input}
+use Rattle.gor_run.specs.Inputs.{IsWholeInput, IsTooLong, most_input}
 use Rattle.gor_run.specs.Runs.{HasBadLine, IsGoodInput}
-use Rattle.gor_run.specs.Statuses.{IsRead, IsReadFault}
+use Rattle.gor_run.specs.Statuses.{SourceIsRead, IsReadFault}
 use Rattle.gor_run.specs.TakenLines.{is_taken_item}
 use Rattle.gor_run.specs.declared.status.Status.{Status}
 use Rattle.gor_run.specs.declared.status.Status.TheVariants as status
 use Rattle.gor_run.specs.declared.words.Given.{Given}
 use Rattle.gor_run.specs.declared.words.Given.TheVariants.{Shards, Slots}
-use Rattle.gor_run.specs.Words.{Found, first_option, slots_for, slots_of_one, slots_of_two, ended, slots_of_last, slots_behind, slots_from, slots_of_options, slots_of_run, most_slots}
+use Rattle.gor_run.specs.Words.{FoundOption, first_option, slots_for, slots_of_one, slots_of_two, ended_words, slots_of_last, slots_behind, slots_from, slots_of_options, slots_of_run, most_slots}
 use Rattle.gor_run.proofs.BadLines.{same_input, one_first, good_has_none, said_has_none}
 
 -- ---- the slots that words give are within the limit
@@ -48,10 +48,10 @@ two_within (Shards n) (Slots m) = for_within n m
 two_within (Slots m) (Shards n) = for_within n m
 two_within (Slots m) (Slots n) = nothing_within
 
-last_within : (first : Given) (second : Option Found) → Within (slots_of_last first second)
+last_within : (first : Given) (second : Option FoundOption) → Within (slots_of_last first second)
 last_within first None = nothing_within
 last_within first (Some next) = at next.rest where
-  at : (rest : List (List ℕ)) → Within (ended rest (slots_of_two first next.given))
+  at : (rest : List (List ℕ)) → Within (ended_words rest (slots_of_two first next.given))
   at [] = two_within first next.given
   at (word ∷ rest) = nothing_within
 
@@ -59,7 +59,7 @@ behind_within : (first : Given) (words : List (List ℕ)) → Within (slots_behi
 behind_within first [] = one_within first
 behind_within first (word ∷ rest) = last_within first (first_option (word ∷ rest))
 
-from_within : (first : Option Found) → Within (slots_from first)
+from_within : (first : Option FoundOption) → Within (slots_from first)
 from_within None = nothing_within
 from_within (Some next) = behind_within next.given next.rest
 
@@ -130,10 +130,10 @@ module _ (before after : Option (List ℕ)) (faults_before faults_after : ℕ) (
   not_long : IsTooLong before after → length input ≤ most_input → ⊥
   not_long long short = let l = consumed_short after long.bytes input (subst (λ b. Consumes b after long.bytes) told long.given) in omega (arith, l, short, long.long)
 
-  whole_short : (bytes : List ℕ) → IsWhole before after bytes → most_input < length input → ⊥
+  whole_short : (bytes : List ℕ) → IsWholeInput before after bytes → most_input < length input → ⊥
   whole_short bytes whole long = let same : length bytes ≡ length input = ap length (same_input before after bytes input whole told) in omega (arith, same, whole.short, long)
 
-  module _ (quiet : ¬ (Rose faults_before faults_after)) where
+  module _ (quiet : ¬ (CountRose faults_before faults_after)) where
     pub long_unread : (s : Status) → IsReadFault before after faults_before faults_after s → most_input < length input → (s ≡ status.TooLong) ⊎ (s ≡ status.NoMemory)
     long_unread status.ReadFault fault long = absurd (quiet fault)
     long_unread status.TooLong fault long = inl refl
@@ -173,8 +173,8 @@ module _ (before after : Option (List ℕ)) (faults_before faults_after : ℕ) (
     good_unread status.WriteFault fault good = absurd fault
 
   -- what was read is not too long, and has no bad line
-  pub read_not_long : (phases : List (List (List Line))) → IsRead before after phases → most_input < length input → ⊥
+  pub read_not_long : (phases : List (List (List Line))) → SourceIsRead before after phases → most_input < length input → ⊥
   read_not_long phases read long = whole_short read.input read.whole long
 
-  pub read_not_bad : (phases : List (List (List Line))) (n : ℕ) → IsRead before after phases → IsFirstBad is_taken_item input n → ⊥
+  pub read_not_bad : (phases : List (List (List Line))) (n : ℕ) → SourceIsRead before after phases → IsFirstBad is_taken_item input n → ⊥
   read_not_bad phases n read bad = said_has_none input phases n (subst (λ i. IsWorkloadText is_taken_item i phases) (same_input before after read.input input read.whole told) read.said) bad

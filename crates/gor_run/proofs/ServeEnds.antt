@@ -6,8 +6,7 @@ use Rattle.std.proofs.lemmas.List.{append-nil}
 use Rattle.std.proofs.Common.{◌≡◌, ◌⊎◌, inl, inr, ℕ, ◌<◌, ◌≤◌, List, [], ◌∷◌, ◌++◌, length, Option, Some, None, Result, Ok, Err, Bool, true, false, cond, refl, sym, ap, subst, ◌∙◌, arith}
 use Rattle.std.specs.Prelude.{nat_eq, sum_by}
 use Rattle.std.specs.List.{AllByRecursion}
-use Rattle.gor_disk.specs.Disk.{DiskView}
-use Rattle.gor_disk.specs.Disk as disk
+use Rattle.gor_disk.specs.Disk.{DiskView, Rose}
 use Rattle.gor_finish.specs.Made.{Numbered}
 use Rattle.gor_hall.specs.declared.pass.Pass.{Pass}
 use Rattle.gor_hall.specs.Halls.{start_of}
@@ -22,7 +21,7 @@ use Rattle.gor_store.specs.Closings.{ClosesBy, only_last}
 use Rattle.gor_store.specs.Lanes.{AreTaken}
 use Rattle.gor_store.specs.Sessions.{HaveServed, SessionStands, SessionIsWhole}
 use Rattle.gor_store.specs.Shards.{BeginsFrom, HasClosed}
-use Rattle.gor_store.specs.Stores.{IsSameStore, ComeBack, HasFlushed, others_of, passes_of}
+use Rattle.gor_store.specs.Stores.{IsSameStore, ComeBack, HasFlushed, others_of, passes_of_store}
 use Rattle.gor_store.specs.Stories.{AllFrom, count_all, served_in}
 use Rattle.gor_store.specs.Works.{HaveAdded, IsAmong, AreOfLane, nothing}
 use Rattle.gor_store.specs.declared.store.Store.{Store}
@@ -31,7 +30,7 @@ use Rattle.gor_store.proofs.Works.{last_is_done, work_is_counted}
 use Rattle.gor_run.specs.Dumps.{CallsFirst}
 use Rattle.gor_run.specs.Outputs.{AppendsUntil}
 use Rattle.gor_run.specs.Runs.{HeldSession, HeldWhole, IsOfLastFlush}
-use Rattle.gor_run.specs.Serving.{EndsBy, HasEnded, HasWritten, status_by}
+use Rattle.gor_run.specs.Serving.{EndsBy, ShardHasEnded, HasWritten, status_by}
 use Rattle.gor_run.specs.TakenLines.{AreTakenPhases, IsTakenPhase}
 use Rattle.gor_run.specs.declared.serving.PhaseFault.{PhaseFault}
 use Rattle.gor_run.specs.declared.status.Status.{Status}
@@ -119,16 +118,16 @@ alone more events k low = ap (λ (es : List Numbered). more k ++ es) (others_non
 -- ---- the end of a store
 
 pub has_ended : {D : Type 0} (tells : Bool) (view : D → DiskView) (faults : D → ℕ) (old new : Store D) (stopped : Option ℕ) (disks : List D)
-    → IsSameStore old new → HasFlushed old new stopped → ComeBack tells view faults new disks → HasEnded tells view faults old stopped disks
+    → IsSameStore old new → HasFlushed old new stopped → ComeBack tells view faults new disks → ShardHasEnded tells view faults old stopped disks
 has_ended tells view faults old new stopped disks same flushed back = record {
   disk = back.disk;
   are = back.are ∙ ap (λ (others : List _). back.disk ∷ others) same.rest;
-  passes = passes_of new;
+  passes = passes_of_store new;
   events = flushed.events;
   closes = flushed.closes;
   added = flushed.added;
   from = flushed.from;
-  closed = subst (λ (start : Start). HasClosed tells view faults start 9 (passes_of new) back.disk) (ap start_of same.hall) back.closed;
+  closed = subst (λ (start : Start). HasClosed tells view faults start 9 (passes_of_store new) back.disk) (ap start_of same.hall) back.closed;
 }
 
 taken_lines : (phases : List (List (List Line))) → AreTakenPhases phases → AllByRecursion (AllByRecursion AreTaken) phases
@@ -146,17 +145,17 @@ module _ {D : Type 0} (tells : Bool) (view : D → DiskView) (faults : D → ℕ
     held : HeldWhole tells view faults slots first now phases text stopped
     same : held.told.told.transcript.served ≡ served
 
-  held_whole : (phases : List (List (List Line))) (text : List ℕ) (stopped : Option ℕ) (disks : List D) → AllByRecursion (AllByRecursion AreTaken) phases → (e : HasEnded tells view faults store stopped disks)
-      → (served : HaveServed (passes_of store) phases nothing text) → Whole phases text stopped e.disk (served_in served.runs)
+  held_whole : (phases : List (List (List Line))) (text : List ℕ) (stopped : Option ℕ) (disks : List D) → AllByRecursion (AllByRecursion AreTaken) phases → (e : ShardHasEnded tells view faults store stopped disks)
+      → (served : HaveServed (passes_of_store store) phases nothing text) → Whole phases text stopped e.disk (served_in served.runs)
   held_whole phases text stopped disks taken e served =
       let start = start_of store.hall in
-      let all = served_whole (passes_of store) e.passes phases text e.events served e.added e.from in
+      let all = served_whole (passes_of_store store) e.passes phases text e.events served e.added e.from in
       let session = stands slots first e.disk start e.passes phases (only_last e.events) text begins taken all e.closed in
       let when = says_when 1 0 slots tells (view first) (faults first) start begins in
       let whole = is_whole 1 0 (view first).seen e.disk start e.passes phases text stopped e.events when.shards_are when.shard_is when.fit_is taken all e.closes e.closed in
       record {
         held = record { start = start; history = e.closed.history; session = session.0; told = whole.0; ends = whole.2 };
-        same = whole.1 ∙ ap served_in (whole_runs (passes_of store) e.passes phases text e.events served e.added e.from);
+        same = whole.1 ∙ ap served_in (whole_runs (passes_of_store store) e.passes phases text e.events served e.added e.from);
       }
 
   -- what came after the phases is of the lines of these lanes up to some act, or of the last flush
@@ -166,11 +165,11 @@ module _ {D : Type 0} (tells : Bool) (view : D → DiskView) (faults : D → ℕ
     of : AllByRecursion (λ e. (e.lane < 8) ⊎ IsOfLastFlush e) held.told.later
 
   held_session : (phases : List (List (List Line))) (text : List ℕ) (more : ℕ → List Numbered) (stopped : Option ℕ) (disks : List D) → AllByRecursion (AllByRecursion AreTaken) phases
-      → (e : HasEnded tells view faults store stopped disks) → (served : HaveServed (passes_of store) phases more text) → count_all served.runs ≤ sum_by (λ p. length (made p)) (passes_of store)
+      → (e : ShardHasEnded tells view faults store stopped disks) → (served : HaveServed (passes_of_store store) phases more text) → count_all served.runs ≤ sum_by (λ p. length (made p)) (passes_of_store store)
       → ((k : ℕ) → 8 ≤ k → more k ≡ []) → InPart phases text more e.disk
   held_session phases text more stopped disks taken e served counted eight =
       let start = start_of store.hall in
-      let all = served_last (passes_of store) e.passes phases more text e.events served counted e.added e.from in
+      let all = served_last (passes_of_store store) e.passes phases more text e.events served counted e.added e.from in
       let session = stands slots first e.disk start e.passes phases (λ k. more k ++ only_last e.events k) text begins taken all e.closed in
       record {
         held = record { start = start; history = e.closed.history; session = session.0; told = session.1 };
@@ -179,11 +178,11 @@ module _ {D : Type 0} (tells : Bool) (view : D → DiskView) (faults : D → ℕ
             session.1.later (λ x among. besides more e.events (flushes_by stopped e.events e.closes) eight x among) session.3;
       }
 
-  rose_so : (phases : List (List (List Line))) (text : List ℕ) (now : D) → HeldWhole tells view faults slots first now phases text (Some 0) → disk.Rose (faults first) (faults now)
+  rose_so : (phases : List (List (List Line))) (text : List ℕ) (now : D) → HeldWhole tells view faults slots first now phases text (Some 0) → Rose (faults first) (faults now)
   rose_so phases text now held = held.session.rose held.ends.stops
 
   pub ends_by : {T : Type 0} (written : Result T PhaseFault) (stopped : Option ℕ) (phases : List (List (List Line))) (held grown : Option (List ℕ)) (before after : ℕ) (disks : List D)
-      → AreTakenPhases phases → HasWritten written (passes_of store) phases held grown before after → (e : HasEnded tells view faults store stopped disks)
+      → AreTakenPhases phases → HasWritten written (passes_of_store store) phases held grown before after → (e : ShardHasEnded tells view faults store stopped disks)
       → EndsBy tells view faults (status_by written stopped) slots phases held grown before after first e.disk
   ends_by (Ok v) None phases held grown before after disks taken w e =
       (record { text = w.0.text; whole = (held_whole phases w.0.text None disks (taken_lines phases taken) e w.0.served).held; appended = w.0.appended }, w.1)
@@ -227,7 +226,7 @@ module _ {D : Type 0} (tells : Bool) (view : D → DiskView) (faults : D → ℕ
 
 pub serve_ends : {D T : Type 0} (tells : Bool) (view : D → DiskView) (faults : D → ℕ) → SessionStands tells view faults → SessionIsWhole tells view faults
     → (old new : Store D) (written : Result T PhaseFault) (stopped : Option ℕ) (phases : List (List (List Line))) (held grown : Option (List ℕ)) (before after : ℕ) (disks : List D) (first : D) (slots : ℕ)
-    → AreTakenPhases phases → IsSameStore old new → HasWritten written (passes_of new) phases held grown before after → HasEnded tells view faults new stopped disks
+    → AreTakenPhases phases → IsSameStore old new → HasWritten written (passes_of_store new) phases held grown before after → ShardHasEnded tells view faults new stopped disks
     → BeginsFrom 1 0 slots tells (view first) (faults first) (start_of old.hall) → (s : Status) → s ≡ status_by written stopped
     → CallsFirst (λ one now. EndsBy tells view faults s slots phases held grown before after one now) (first ∷ others_of old) disks
 serve_ends tells view faults stands is_whole old new written stopped phases held grown before after disks first slots taken same wrote e begins s is =

@@ -4,13 +4,12 @@ use Rattle.std.specs.List.Sorted.{IsPermutation, IsSortedByKey}
 use Rattle.std.specs.Ordering.{nat_cmp}
 use Rattle.std.specs.Cmp.Lexicographic.{slice_cmp}
 use Rattle.std.specs.Io.KnownBytes.{Appends}
-use Rattle.gor_disk.specs.Disk.{Contents}
-use Rattle.gor_disk.specs.Disk as disk
+use Rattle.gor_disk.specs.Disk.{Contents, Rose}
 use Rattle.gor_disk.specs.declared.disk.Disk as disk_ghosts
-use Rattle.gor_outside.specs.Causes.{Rose}
+use Rattle.gor_outside.specs.Causes.{CountRose}
 use Rattle.gor_outside.specs.declared.sink.Sink as sink_ghosts
 use Rattle.gor_image.specs.declared.fault.ImageFault.{ImageFault}
-use Rattle.gor_image.specs.Holding.{start_of}
+use Rattle.gor_image.specs.Holding.{start_of_map}
 use Rattle.gor_image.specs.Images.{opens_to}
 use Rattle.gor_image.specs.Recovery.{ShardMap}
 use Rattle.gor_model.specs.Starts.{IsStart}
@@ -18,7 +17,7 @@ use Rattle.gor_model.specs.declared.start.Row.{Row}
 use Rattle.gor_model.specs.declared.start.Start.{Start}
 use Rattle.gor_text.specs.Dumps.{floor_line, series_line}
 use Rattle.gor_run.specs.Outputs.{AppendsPart}
-use Rattle.gor_run.specs.Words.{asks_dump, most_slots, words_of}
+use Rattle.gor_run.specs.Words.{asks_dump, most_slots, words_of_strings}
 use Rattle.gor_run.specs.declared.status.Status.{Status}
 use Rattle.gor_run.specs.declared.status.Status.TheVariants as status
 
@@ -45,7 +44,7 @@ pub record IsDumpOf (shard : ℕ) (start : Start) (text : List ℕ) : Type 0 whe
 pub record OpensAs (image : Contents) (start : Start) : Type 0 where
   pub map : ShardMap
   pub opens : opens_to image 1 0 most_slots ≡ Ok map
-  pub same : start ≡ start_of most_slots map
+  pub same : start ≡ start_of_map most_slots map
 
 -- a dump of what a disk recovers to, where it tells that
 pub record Recovers (tells : Bool) (image : Contents) (text : List ℕ) : Type 0 where
@@ -99,22 +98,22 @@ EndsAs this ended = (ended ≡ this) ⊎ (ended ≡ status.NoMemory)
 
 -- the words are those of a dump
 abbrev pub AsksDump : {Z : Type 0} → List (String Z) → Type 0
-AsksDump words = asks_dump (words_of words) ≡ true
+AsksDump words = asks_dump (words_of_strings words) ≡ true
 
 module _ {D : Type 0} (of_disk : disk_ghosts.Ghosts D) where
   -- what a disk tells is refused so as that of shard 0, and no fault of the disk rose
-  pub record IsRefused (shard : ℕ) (fault : ImageFault) (old now : D) : Type 0 where
+  pub record DiskIsRefused (shard : ℕ) (fault : ImageFault) (old now : D) : Type 0 where
     pub first : shard ≡ 0
     pub meets : IsTrue of_disk.tells → opens_to (of_disk.view old).seen 1 0 most_slots ≡ Err fault
     pub quiet : of_disk.faults now ≡ of_disk.faults old
 
   -- the disk failed, as that of shard 0
-  abbrev pub HasFailed : (shard : ℕ) (old now : D) → Type 0
-  HasFailed shard old now = (shard ≡ 0) × disk.Rose (of_disk.faults old) (of_disk.faults now)
+  abbrev pub DiskHasFailed : (shard : ℕ) (old now : D) → Type 0
+  DiskHasFailed shard old now = (shard ≡ 0) × Rose (of_disk.faults old) (of_disk.faults now)
 
   -- where a disk tells its files, reading them meets this fault and the disk did not fail, the call ends so
   abbrev pub FaultShows : (slots : ℕ) (fault : ImageFault) (ended : Status) (old now : D) → Type 0
-  FaultShows slots fault ended old now = IsTrue of_disk.tells → ¬ (disk.Rose (of_disk.faults old) (of_disk.faults now))
+  FaultShows slots fault ended old now = IsTrue of_disk.tells → ¬ (Rose (of_disk.faults old) (of_disk.faults now))
       → opens_to (of_disk.view old).seen 1 0 slots ≡ Err fault → EndsAs (status.NotOpened 0 fault) ended
 
   -- and that for each fault
@@ -131,5 +130,5 @@ module _ {D : Type 0} (of_disk : disk_ghosts.Ghosts D) where
 
     -- where a disk tells its files, they open, and neither disk nor sink failed, the dump ends well
     abbrev pub DumpCompletes : (ended : Status) (old now : D) → Type 0
-    DumpCompletes ended old now = IsTrue of_disk.tells → ¬ (disk.Rose (of_disk.faults old) (of_disk.faults now)) → ¬ (Rose (of_sink.faults sink) (of_sink.faults grown))
+    DumpCompletes ended old now = IsTrue of_disk.tells → ¬ (Rose (of_disk.faults old) (of_disk.faults now)) → ¬ (CountRose (of_sink.faults sink) (of_sink.faults grown))
         → IsOk (opens_to (of_disk.view old).seen 1 0 most_slots) → EndsAs status.Ok ended

@@ -7,7 +7,7 @@ abbrev pub most_input : ℕ
 most_input = 16777216
 
 -- these are all the bytes that the source had left, and they are within the limit
-pub record IsWhole (before after : Option (List ℕ)) (bytes : List ℕ) : Type 0 where
+pub record IsWholeInput (before after : Option (List ℕ)) (bytes : List ℕ) : Type 0 where
   pub given : Consumes before after bytes
   pub ended : IsAtEnd after
   pub short : length bytes ≤ most_input

@@ -8,7 +8,7 @@ use Rattle.gor_disk.specs.declared.disk.Disk as disk_ghosts
 use Rattle.gor_outside.specs.declared.sink.Sink as sink_ghosts
 use Rattle.gor_outside.specs.declared.source.Source as source_ghosts
 use Rattle.gor_finish.specs.Made.{Numbered}
-use Rattle.gor_outside.specs.Causes.{Rose}
+use Rattle.gor_outside.specs.Causes.{CountRose}
 use Rattle.gor_model.specs.declared.start.Start.{Start}
 use Rattle.gor_model.specs.declared.event.Call.{Call}
 use Rattle.gor_model.specs.declared.event.Call.TheVariants as call
@@ -27,8 +27,8 @@ use Rattle.gor_store.specs.Sessions.{Session, SessionEnds, IsToldBy, IsToldWhole
 use Rattle.gor_store.specs.Shards.{BeginsFrom}
 use Rattle.gor_store.specs.Stores.{WasRefused}
 use Rattle.gor_store.specs.Works.{AreOfLane}
-use Rattle.gor_run.specs.Inputs.{most_input, IsWhole}
-use Rattle.gor_run.specs.Words.{slots_of_run, words_of}
+use Rattle.gor_run.specs.Inputs.{most_input, IsWholeInput}
+use Rattle.gor_run.specs.Words.{slots_of_run, words_of_strings}
 use Rattle.gor_run.specs.Outputs.{AppendsUntil}
 use Rattle.gor_run.specs.TakenLines.{is_taken_item}
 use Rattle.gor_run.specs.declared.outcome.Outcome.{Outcome}
@@ -41,13 +41,13 @@ use Rattle.gor_run.specs.declared.status.Status.{Status}
 pub record IsAsked (words : List (List ℕ)) (before after : Option (List ℕ)) (slots : ℕ) (phases : List (List (List Line))) : Type 0 where
   pub input : List ℕ
   pub asked : slots_of_run words ≡ Some slots
-  pub read : IsWhole before after input
+  pub read : IsWholeInput before after input
   pub said : IsWorkloadText is_taken_item input phases
 
 -- the source was read to its end within the limit, and line n is the first that is bad
 pub record HasBadLine (before after : Option (List ℕ)) (n : ℕ) : Type 0 where
   pub input : List ℕ
-  pub read : IsWhole before after input
+  pub read : IsWholeInput before after input
   pub bad : IsFirstBad is_taken_item input n
 
 -- an input within the limit, every line of which is taken
@@ -105,7 +105,7 @@ module _ {D : Type 0} (tells : Bool) (view : D → DiskView) (faults : D → ℕ
     pub parts : phases ≡ run ++ rest
     pub text : List ℕ
     pub whole : HeldWhole slots disk now run text (Some 0)
-    pub appended : ((rest ≡ []) × Appends held written text × (after ≡ before)) ⊎ (AppendsUntil held written whole.told.told.transcript.served × Rose before after)
+    pub appended : ((rest ≡ []) × Appends held written text × (after ≡ before)) ⊎ (AppendsUntil held written whole.told.told.transcript.served × CountRose before after)
 
   -- the sink failed within the text of the last of the phases that were run
   pub record EndsUnwritten (slots : ℕ) (phases : List (List (List Line))) (held written : Option (List ℕ)) (disk now : D) : Type 0 where
@@ -152,7 +152,7 @@ pub record Ran (D : Type 0) : Type 1 where
 -- that of a call of `run`, whose source and sink were `source` and `sink`, and are `drained` and `grown` at its end
 abbrev pub run_of : {S K D Z : Type 0} → source_ghosts.Ghosts S → sink_ghosts.Ghosts K → disk_ghosts.Ghosts D → List (String Z) → (source drained : S) → (sink grown : K) → Vec D Global → Outcome D → Ran D
 run_of of_source of_sink of_disk words source drained sink grown disks outcome = record {
-  words = words_of words;
+  words = words_of_strings words;
   left_before = of_source.left source;
   left_after = of_source.left drained;
   held_before = of_sink.held sink;
@@ -167,13 +167,13 @@ run_of of_source of_sink of_disk words source drained sink grown disks outcome =
 
 -- the phases of what the source gave, and what was left of them on the first disk and in the sink
 module _ {D : Type 0} (run : Ran D) where
-  pub record Answers (disk now : D) : Type 0 where
+  pub record RunAnswers (disk now : D) : Type 0 where
     pub slots : ℕ
     pub phases : List (List (List Line))
     pub asked : IsAsked run.words run.left_before run.left_after slots phases
     pub ends : EndsWell run.disk.tells run.disk.view run.disk.faults slots phases run.held_before run.held_after disk now
 
-  pub record Stops (disk now : D) : Type 0 where
+  pub record RunStops (disk now : D) : Type 0 where
     pub slots : ℕ
     pub phases : List (List (List Line))
     pub asked : IsAsked run.words run.left_before run.left_after slots phases

@@ -1,10 +1,9 @@
 -- What a run does with an open store: it answers phases, writes their text, ends, and says how.
 use Rattle.std.specs.Prelude.{◌≡◌, ℕ, ◌≤◌, List, [], ◌∷◌, ◌++◌, flat_map, sum_by, length, Option, Some, None, Result, Ok, Err, Bool}
 use Rattle.std.specs.Io.KnownBytes.{Appends}
-use Rattle.gor_disk.specs.Disk.{DiskView}
-use Rattle.gor_disk.specs.Disk as disk
+use Rattle.gor_disk.specs.Disk.{DiskView, Rose}
 use Rattle.gor_disk.specs.declared.disk.Disk as disk_ghosts
-use Rattle.gor_outside.specs.Causes.{Rose}
+use Rattle.gor_outside.specs.Causes.{CountRose}
 use Rattle.gor_outside.specs.declared.sink.Sink as sink_ghosts
 use Rattle.gor_finish.specs.Made.{Numbered}
 use Rattle.gor_hall.specs.declared.pass.Pass.{Pass}
@@ -20,7 +19,7 @@ use Rattle.gor_store.specs.LineParts.{ArePart}
 use Rattle.gor_store.specs.Phases.{RanPhase, lines_at}
 use Rattle.gor_store.specs.Sessions.{HaveServed}
 use Rattle.gor_store.specs.Shards.{BeginsFrom, HasClosed}
-use Rattle.gor_store.specs.Stores.{events_of, others_of, passes_of}
+use Rattle.gor_store.specs.Stores.{events_of, others_of, passes_of_store}
 use Rattle.gor_store.specs.Stories.{AllFrom, count_all, served_in}
 use Rattle.gor_store.specs.Works.{HaveAdded, nothing}
 use Rattle.gor_store.specs.declared.store.Store.{Store}
@@ -73,38 +72,38 @@ pub record WroteUntil (passes : List Pass) (phases : List (List (List Line))) (h
 
 abbrev pub HasWritten : {T : Type 0} → Result T PhaseFault → List Pass → List (List (List Line)) → (held written : Option (List ℕ)) → (before after : ℕ) → Type 0
 HasWritten (Ok v) passes phases held written before after = WroteAll passes phases held written × (after ≡ before)
-HasWritten (Err fault.Write) passes phases held written before after = WroteInPart passes phases held written × Rose before after
+HasWritten (Err fault.Write) passes phases held written before after = WroteInPart passes phases held written × CountRose before after
 HasWritten (Err fault.NoMemory) passes phases held written before after = WroteUntil passes phases held written × (after ≡ before)
 
 -- ---- how a store ended
 
 -- lane 8 made the events of a last flush, and the disk is that of the shard as its hall closed
-pub record HasEnded {D : Type 0} (tells : Bool) (view : D → DiskView) (faults : D → ℕ) (store : Store D) (stopped : Option ℕ) (disks : List D) : Type 0 where
+pub record ShardHasEnded {D : Type 0} (tells : Bool) (view : D → DiskView) (faults : D → ℕ) (store : Store D) (stopped : Option ℕ) (disks : List D) : Type 0 where
   pub disk : D
   pub are : disks ≡ disk ∷ others_of store
   pub passes : List Pass
   pub events : List Numbered
   pub closes : ClosesBy stopped events
-  pub added : HaveAdded (passes_of store) passes (only_last events)
+  pub added : HaveAdded (passes_of_store store) passes (only_last events)
   pub from : AllFrom (events_of store) events
   pub closed : HasClosed tells view faults (start_of store.hall) 9 passes disk
 
 -- want of memory in a phase comes first, then a stopped shard, then a failed write
-abbrev pub unless_stopped : Option ℕ → Status → Status
-unless_stopped (Some shard) other = status.DeviceFault shard
-unless_stopped None other = other
+abbrev pub unless_shard_stopped : Option ℕ → Status → Status
+unless_shard_stopped (Some shard) other = status.DeviceFault shard
+unless_shard_stopped None other = other
 
 abbrev pub status_by : {T : Type 0} → Result T PhaseFault → Option ℕ → Status
-status_by (Ok v) stopped = unless_stopped stopped status.Ok
-status_by (Err fault.Write) stopped = unless_stopped stopped status.WriteFault
+status_by (Ok v) stopped = unless_shard_stopped stopped status.Ok
+status_by (Err fault.Write) stopped = unless_shard_stopped stopped status.WriteFault
 status_by (Err fault.NoMemory) stopped = status.NoMemory
 
 -- what stands on the disk and in the sink under each status of a store that was opened
 abbrev pub EndsBy : {D : Type 0} → (tells : Bool) (view : D → DiskView) (faults : D → ℕ) → Status → (slots : ℕ) (phases : List (List (List Line))) (held written : Option (List ℕ)) (before after : ℕ) (first now : D) → Type 0
 EndsBy tells view faults status.Ok slots phases held written before after first now = EndsWell tells view faults slots phases held written first now × (after ≡ before)
 EndsBy tells view faults (status.DeviceFault shard) slots phases held written before after first now =
-    (shard ≡ 0) × disk.Rose (faults first) (faults now) × EndsStopped tells view faults slots phases held written before after first now
-EndsBy tells view faults status.WriteFault slots phases held written before after first now = EndsUnwritten tells view faults slots phases held written first now × Rose before after
+    (shard ≡ 0) × Rose (faults first) (faults now) × EndsStopped tells view faults slots phases held written before after first now
+EndsBy tells view faults status.WriteFault slots phases held written before after first now = EndsUnwritten tells view faults slots phases held written first now × CountRose before after
 EndsBy tells view faults status.NoMemory slots phases held written before after first now = EndsInPart tells view faults slots phases held written first now × (after ≡ before)
 EndsBy tells view faults _ slots phases held written before after first now = ⊥
 

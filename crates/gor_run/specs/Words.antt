@@ -1,45 +1,45 @@
 -- The words of the command line.
 use Rattle.std.specs.Prelude.{ℕ, ◌+◌, nat_eq, nat_le, Bool, true, false, List, [], ◌∷◌, map, take, drop, position, codes, ◌&&◌, Option, Some, None, option_map, String, string_bytes, if◌then◌else◌}
 use Rattle.std.specs.Str.{bytes_eq}
-use Rattle.gor_text.specs.Grammar.{number_of}
+use Rattle.gor_text.specs.Grammar.{number_of_text}
 use Rattle.gor_run.specs.declared.words.Given.{Given}
 use Rattle.gor_run.specs.declared.words.Given.TheVariants.{Shards, Slots}
 
-abbrev pub words_of : {Z : Type 0} → List (String Z) → List (List ℕ)
-words_of words = map string_bytes words
+abbrev pub words_of_strings : {Z : Type 0} → List (String Z) → List (List ℕ)
+words_of_strings words = map string_bytes words
 
 -- ---- options: `--NAME VALUE` or `--NAME=VALUE`
 
-abbrev pub named : List ℕ → List ℕ → Option Given
-named name value =
-    if bytes_eq name (codes "--shards") then option_map Shards (number_of value)
-    else if bytes_eq name (codes "--slots") then option_map Slots (number_of value)
+abbrev pub option_named : List ℕ → List ℕ → Option Given
+option_named name value =
+    if bytes_eq name (codes "--shards") then option_map Shards (number_of_text value)
+    else if bytes_eq name (codes "--slots") then option_map Slots (number_of_text value)
     else None
 
 -- an option, and the words behind it
-pub record Found : Type 0 where
+pub record FoundOption : Type 0 where
   pub given : Given
   pub rest : List (List ℕ)
 
-abbrev pub found : List (List ℕ) → Given → Found
+abbrev pub found : List (List ℕ) → Given → FoundOption
 found rest given = record { given = given; rest = rest }
 
-abbrev pub before_rest : List (List ℕ) → Option Given → Option Found
+abbrev pub before_rest : List (List ℕ) → Option Given → Option FoundOption
 before_rest rest given = option_map (found rest) given
 
-abbrev pub with_next : List ℕ → List (List ℕ) → Option Found
+abbrev pub with_next : List ℕ → List (List ℕ) → Option FoundOption
 with_next name [] = None
-with_next name (value ∷ rest) = before_rest rest (named name value)
+with_next name (value ∷ rest) = before_rest rest (option_named name value)
 
 -- the place of the first `=`
 abbrev pub equals_in : List ℕ → Option ℕ
 equals_in word = position (λ byte. nat_eq byte 61) word
 
-abbrev pub parted : List ℕ → List (List ℕ) → Option ℕ → Option Found
+abbrev pub parted : List ℕ → List (List ℕ) → Option ℕ → Option FoundOption
 parted word rest None = with_next word rest
-parted word rest (Some at) = before_rest rest (named (take at word) (drop (at + 1) word))
+parted word rest (Some at) = before_rest rest (option_named (take at word) (drop (at + 1) word))
 
-abbrev pub first_option : List (List ℕ) → Option Found
+abbrev pub first_option : List (List ℕ) → Option FoundOption
 first_option [] = None
 first_option (word ∷ rest) = parted word rest (equals_in word)
 
@@ -64,19 +64,19 @@ slots_of_two (Shards n) (Slots m) = slots_for n m
 slots_of_two (Slots m) (Shards n) = slots_for n m
 slots_of_two _ _ = None
 
-abbrev pub ended : List (List ℕ) → Option ℕ → Option ℕ
-ended [] slots = slots
-ended (word ∷ rest) slots = None
+abbrev pub ended_words : List (List ℕ) → Option ℕ → Option ℕ
+ended_words [] slots = slots
+ended_words (word ∷ rest) slots = None
 
-abbrev pub slots_of_last : Given → Option Found → Option ℕ
+abbrev pub slots_of_last : Given → Option FoundOption → Option ℕ
 slots_of_last first None = None
-slots_of_last first (Some next) = ended next.rest (slots_of_two first next.given)
+slots_of_last first (Some next) = ended_words next.rest (slots_of_two first next.given)
 
 abbrev pub slots_behind : Given → List (List ℕ) → Option ℕ
 slots_behind first [] = slots_of_one first
 slots_behind first (word ∷ rest) = slots_of_last first (first_option (word ∷ rest))
 
-abbrev pub slots_from : Option Found → Option ℕ
+abbrev pub slots_from : Option FoundOption → Option ℕ
 slots_from None = None
 slots_from (Some next) = slots_behind next.given next.rest
 
@@ -100,7 +100,7 @@ is_last [] = true
 is_last (word ∷ rest) = false
 
 -- it gives one shard, and no word is behind it
-abbrev pub gives_one_shard : Option Found → Bool
+abbrev pub gives_one_shard : Option FoundOption → Bool
 gives_one_shard None = false
 gives_one_shard (Some option) = is_one_shard option.given && is_last option.rest
 

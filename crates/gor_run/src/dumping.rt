@@ -3,9 +3,9 @@ ghost use Rattle.std.specs.Prelude.{◌≡◌, ◌≤◌, ℕ, length, false, Is
 ghost use Rattle.std.specs.Io.KnownBytes.{Keeps};
 ghost use Rattle.gor_image.specs.declared.fault.ImageFault.{ImageFault as Fault};
 ghost use Rattle.gor_recover.specs.Openings.{OnlyRead};
-ghost use Rattle.gor_outside.specs.Causes.{Rose};
-ghost use Rattle.gor_run.specs.Dumps.{AsksDump, CallsFirst, DumpCompletes, EachFaultShows, HasFailed, IsOfDisk, IsOfDump, IsRefused, WritesNoDump, WroteDump, WroteDumpInPart};
-ghost use Rattle.gor_run.specs.Words.{asks_dump, words_of};
+ghost use Rattle.gor_outside.specs.Causes.{CountRose};
+ghost use Rattle.gor_run.specs.Dumps.{AsksDump, CallsFirst, DumpCompletes, EachFaultShows, DiskHasFailed, IsOfDisk, IsOfDump, DiskIsRefused, WritesNoDump, WroteDump, WroteDumpInPart};
+ghost use Rattle.gor_run.specs.Words.{asks_dump, words_of_strings};
 
 use crate::dump_text::{ONLY_SHARD, dump_text};
 use crate::outcome::Outcome;
@@ -40,9 +40,9 @@ fn refusal(fault: OpenFault) -> Status
 fn dump_disk<K: Sink, D: Disk>(alloc: Global, sink: &mut K, disk: &mut D) -> Status
     ensures answered { result ≡ Status.Ok → WroteDump D.Disk K.Sink sink.old sink.new disk.old disk.new }
     ensures in_part { result ≡ Status.WriteFault → WroteDumpInPart D.Disk K.Sink sink.old sink.new disk.old disk.new }
-    ensures not_opened { (shard : ℕ) (fault : Fault) → result ≡ Status.NotOpened shard fault → IsRefused D.Disk shard fault disk.old disk.new }
-    ensures device_fault { (shard : ℕ) → result ≡ Status.DeviceFault shard → HasFailed D.Disk shard disk.old disk.new }
-    ensures write_fault { result ≡ Status.WriteFault → Rose (K.faults sink.old) (K.faults sink.new) }
+    ensures not_opened { (shard : ℕ) (fault : Fault) → result ≡ Status.NotOpened shard fault → DiskIsRefused D.Disk shard fault disk.old disk.new }
+    ensures device_fault { (shard : ℕ) → result ≡ Status.DeviceFault shard → DiskHasFailed D.Disk shard disk.old disk.new }
+    ensures write_fault { result ≡ Status.WriteFault → CountRose (K.faults sink.old) (K.faults sink.new) }
     ensures quiet { WritesNoDump result → Keeps (K.held sink.old) (K.held sink.new) × (K.faults sink.new ≡ K.faults sink.old) }
     ensures statuses { IsOfDisk result }
     ensures only_read { IsTrue D.tells → OnlyRead (D.view disk.old) (D.view disk.new) }
@@ -68,9 +68,9 @@ fn dump_first<K: Sink, D: Disk>(alloc: Global, sink: &mut K, disks: &mut [D]) ->
     ensures len { length disks.new ≡ length disks.old }
     ensures answered { result ≡ Status.Ok → CallsFirst (WroteDump D.Disk K.Sink sink.old sink.new) disks.old disks.new }
     ensures in_part { result ≡ Status.WriteFault → CallsFirst (WroteDumpInPart D.Disk K.Sink sink.old sink.new) disks.old disks.new }
-    ensures not_opened { (shard : ℕ) (fault : Fault) → result ≡ Status.NotOpened shard fault → CallsFirst (IsRefused D.Disk shard fault) disks.old disks.new }
-    ensures device_fault { (shard : ℕ) → result ≡ Status.DeviceFault shard → CallsFirst (HasFailed D.Disk shard) disks.old disks.new }
-    ensures write_fault { result ≡ Status.WriteFault → Rose (K.faults sink.old) (K.faults sink.new) }
+    ensures not_opened { (shard : ℕ) (fault : Fault) → result ≡ Status.NotOpened shard fault → CallsFirst (DiskIsRefused D.Disk shard fault) disks.old disks.new }
+    ensures device_fault { (shard : ℕ) → result ≡ Status.DeviceFault shard → CallsFirst (DiskHasFailed D.Disk shard) disks.old disks.new }
+    ensures write_fault { result ≡ Status.WriteFault → CountRose (K.faults sink.old) (K.faults sink.new) }
     ensures quiet { WritesNoDump result → Keeps (K.held sink.old) (K.held sink.new) × (K.faults sink.new ≡ K.faults sink.old) }
     ensures statuses { IsOfDisk result }
     ensures only_read { CallsFirst (λ disk now. IsTrue D.tells → OnlyRead (D.view disk) (D.view now)) disks.old disks.new }
@@ -101,15 +101,15 @@ pub fn dump<R: AllocGlobal, K: Sink, D: Disk>(
 
     // The cause of every other status but want of memory.
     ensures statuses { IsOfDump result.status }
-    ensures words { result.status ≡ Status.Words → (asks_dump (words_of words.now) ≡ false) × (result.disks.items ≡ disks.items) }
-    ensures not_opened { (n : ℕ) (fault : Fault) → result.status ≡ Status.NotOpened n fault → CallsFirst (IsRefused D.Disk n fault) disks.items result.disks.items }
-    ensures device_fault { (shard : ℕ) → result.status ≡ Status.DeviceFault shard → CallsFirst (HasFailed D.Disk shard) disks.items result.disks.items }
-    ensures write_fault { result.status ≡ Status.WriteFault → Rose (K.faults sink.old) (K.faults sink.new) }
+    ensures words { result.status ≡ Status.Words → (asks_dump (words_of_strings words.now) ≡ false) × (result.disks.items ≡ disks.items) }
+    ensures not_opened { (n : ℕ) (fault : Fault) → result.status ≡ Status.NotOpened n fault → CallsFirst (DiskIsRefused D.Disk n fault) disks.items result.disks.items }
+    ensures device_fault { (shard : ℕ) → result.status ≡ Status.DeviceFault shard → CallsFirst (DiskHasFailed D.Disk shard) disks.items result.disks.items }
+    ensures write_fault { result.status ≡ Status.WriteFault → CountRose (K.faults sink.old) (K.faults sink.new) }
     ensures in_part { result.status ≡ Status.WriteFault → CallsFirst (WroteDumpInPart D.Disk K.Sink sink.old sink.new) disks.items result.disks.items }
     ensures nothing_written { WritesNoDump result.status → Keeps (K.held sink.old) (K.held sink.new) × (K.faults sink.new ≡ K.faults sink.old) }
 
     // Each of these causes gives its status, unless memory is wanting.
-    ensures words_refused { asks_dump (words_of words.now) ≡ false → result.status ≡ Status.Words }
+    ensures words_refused { asks_dump (words_of_strings words.now) ≡ false → result.status ≡ Status.Words }
     ensures refused { AsksDump words.now → CallsFirst (EachFaultShows D.Disk result.status) disks.items result.disks.items }
 
     // What nothing hinders ends well, unless memory is wanting.

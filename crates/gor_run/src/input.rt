@@ -2,8 +2,8 @@
 ghost use Rattle.std.specs.Prelude.{◌≡◌, ◌+◌, ◌≤◌, ◌<◌, ℕ, ◌≢◌, List, length, IfOk, Ok, Err, OnOk, true, false, ◌++◌};
 ghost use Rattle.std.specs.Io.KnownBytes.{Consumes, IsAtEnd};
 ghost use Rattle.gor_run.specs.declared.input.InputFault.{InputFault as Fault};
-ghost use Rattle.gor_outside.specs.Causes.{Rose};
-ghost use Rattle.gor_run.specs.Inputs.{IsWhole, IsTooLong};
+ghost use Rattle.gor_outside.specs.Causes.{CountRose};
+ghost use Rattle.gor_run.specs.Inputs.{IsWholeInput, IsTooLong};
 
 use gor_outside::Source;
 use std::alloc::{AllocError, Global};
@@ -43,7 +43,7 @@ fn read_piece<S: Source>(
     ensures more { result ≡ Ok false → length bytes.old.items < length bytes.new.items }
     ensures last { result ≡ Ok true → IsAtEnd (S.left source.new) × (bytes.new.items ≡ bytes.old.items) }
     ensures quiet { result ≢ Err InputFault.Failed → S.faults source.new ≡ S.faults source.old }
-    ensures failed { result ≡ Err InputFault.Failed → Rose (S.faults source.old) (S.faults source.new) }
+    ensures failed { result ≡ Err InputFault.Failed → CountRose (S.faults source.old) (S.faults source.new) }
     ensures fault { result ≢ Err InputFault.TooLong }
     ensures turn { S.reads source.new ≤ S.reads source.old + 1 }
 {
@@ -61,9 +61,9 @@ fn read_piece<S: Source>(
 
 /// Reads a source to its end, in at most 16,777,217 reads: each gives at least one byte, or is the last.
 pub fn read_input<S: Source>(alloc: Global, source: &mut S) -> Result<Vec<u8>, InputFault>
-    ensures whole { IfOk result (λ bytes. IsWhole (S.left source.old) (S.left source.new) bytes.items) }
+    ensures whole { IfOk result (λ bytes. IsWholeInput (S.left source.old) (S.left source.new) bytes.items) }
     ensures too_long { result ≡ Err InputFault.TooLong → IsTooLong (S.left source.old) (S.left source.new) }
-    ensures failed { result ≡ Err InputFault.Failed → Rose (S.faults source.old) (S.faults source.new) }
+    ensures failed { result ≡ Err InputFault.Failed → CountRose (S.faults source.old) (S.faults source.new) }
     ensures unfailed { (fault : Fault) → result ≡ Err fault → fault ≢ InputFault.Failed → S.faults source.new ≡ S.faults source.old }
     ensures quiet { OnOk result (S.faults source.new ≡ S.faults source.old) }
     ensures turns { S.reads source.new ≤ S.reads source.old + 16777217 }

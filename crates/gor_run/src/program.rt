@@ -4,14 +4,14 @@ ghost use Rattle.std.specs.List.{AllByRecursion};
 ghost use Rattle.std.specs.Io.KnownBytes.{Keeps};
 ghost use Rattle.gor_disk.specs.Disk.{NothingPending};
 ghost use Rattle.gor_image.specs.declared.fault.ImageFault.{ImageFault as Fault};
-ghost use Rattle.gor_outside.specs.Causes.{Rose};
+ghost use Rattle.gor_outside.specs.Causes.{CountRose};
 ghost use Rattle.gor_run.specs.Dumps.{EndsAs};
 ghost use Rattle.gor_run.specs.Ends.{BrokeOff, Completes, HasBadInput, HasGoodInput, HasLongInput, IsRefusedFor, MeetsDeviceFault, MeetsImageFault, OnFirst, OnSound, WantedMemory};
 ghost use Rattle.gor_run.specs.Inputs.{IsTooLong};
-ghost use Rattle.gor_run.specs.Runs.{Answers, HasBadLine, WritesOneText, run_of};
+ghost use Rattle.gor_run.specs.Runs.{RunAnswers, HasBadLine, WritesOneText, run_of};
 ghost use Rattle.gor_run.specs.Serving.{unopened_status};
 ghost use Rattle.gor_run.specs.Statuses.{CallsNoDisk, WritesNothing};
-ghost use Rattle.gor_run.specs.Words.{words_of, slots_of_run};
+ghost use Rattle.gor_run.specs.Words.{words_of_strings, slots_of_run};
 
 use crate::outcome::Outcome;
 use crate::reading::read_workload;
@@ -60,7 +60,7 @@ pub fn run<
     requires pending { IsTrue D.tells → AllByRecursion (λ d. NothingPending (D.view d)) disks.items }
 
     // The headline.
-    ensures answered { result.status ≡ Status.Ok → OnFirst Answers (run_of S.Source K.Sink D.Disk words.now source.old source.new sink.old sink.new disks result) }
+    ensures answered { result.status ≡ Status.Ok → OnFirst RunAnswers (run_of S.Source K.Sink D.Disk words.now source.old source.new sink.old sink.new disks result) }
     ensures quiet { result.status ≡ Status.Ok → K.faults sink.new ≡ K.faults sink.old }
 
     // Where one lane alone has lines and the disk did not fail, what was written is the only text that answers them.
@@ -77,13 +77,13 @@ pub fn run<
     ensures uncalled { CallsNoDisk result.status → result.disks.items ≡ disks.items }
 
     // The cause of every other status but want of memory.
-    ensures words { result.status ≡ Status.Words → slots_of_run (words_of words.now) ≡ None }
-    ensures read_fault { result.status ≡ Status.ReadFault → Rose (S.faults source.old) (S.faults source.new) }
+    ensures words { result.status ≡ Status.Words → slots_of_run (words_of_strings words.now) ≡ None }
+    ensures read_fault { result.status ≡ Status.ReadFault → CountRose (S.faults source.old) (S.faults source.new) }
     ensures too_long { result.status ≡ Status.TooLong → IsTooLong (S.left source.old) (S.left source.new) }
     ensures bad_line { (line : ℕ) → result.status ≡ Status.BadLine line → HasBadLine (S.left source.old) (S.left source.new) line }
 
     // Each of these causes gives its status, unless memory is wanting.
-    ensures words_refused { slots_of_run (words_of words.now) ≡ None → result.status ≡ Status.Words }
+    ensures words_refused { slots_of_run (words_of_strings words.now) ≡ None → result.status ≡ Status.Words }
     ensures long_refused { HasLongInput S.Source words.now source.old source.new → EndsAs Status.TooLong result.status }
     ensures bad_refused { (line : ℕ) → HasBadInput S.Source words.now source.old source.new line → EndsAs (Status.BadLine line) result.status }
     ensures refused { (slots : ℕ) (fault : Fault) → HasGoodInput S.Source words.now source.old source.new slots → IsRefusedFor D.Disk slots fault disks result }

@@ -1,7 +1,7 @@
 //! The input of a run as a workload.
 ghost use Rattle.std.specs.Prelude.{◌≡◌, ◌+◌, ◌≤◌, ℕ, IfOk, IfErr, OnOk};
 ghost use Rattle.gor_text.specs.Workloads.{lines_in};
-ghost use Rattle.gor_run.specs.Statuses.{IsRead, IsReadFault};
+ghost use Rattle.gor_run.specs.Statuses.{SourceIsRead, IsReadFault};
 
 use crate::input::{InputFault, read_input};
 use crate::status::Status;
@@ -12,7 +12,7 @@ use std::alloc::Global;
 
 /// Reads a source to its end, and the workload that it gave; or the status with which a run ends that has none.
 pub fn read_workload<S: Source>(alloc: Global, source: &mut S) -> Result<Workload, Status>
-    ensures read { IfOk result (λ workload. IsRead (S.left source.old) (S.left source.new) (lines_in workload)) }
+    ensures read { IfOk result (λ workload. SourceIsRead (S.left source.old) (S.left source.new) (lines_in workload)) }
     ensures fault { IfErr result (IsReadFault (S.left source.old) (S.left source.new) (S.faults source.old) (S.faults source.new)) }
     ensures turns { S.reads source.new ≤ S.reads source.old + 16777217 }
 {

@@ -3,8 +3,8 @@ ghost use Rattle.std.specs.Prelude.{◌≡◌, ℕ, ◌+◌, ◌*◌, ◌^◌, �
 ghost use Rattle.gor_text.specs.Spelling.{answer_line};
 ghost use Rattle.gor_text.specs.Workloads.{phase_lines};
 ghost use Rattle.gor_store.specs.Phases.{RanInPart};
-ghost use Rattle.gor_store.specs.Stores.{HasLeft, HasLeftFor, ClosingHasLeft, HasMadeNothing, IsAtRest, IsSameStore, events_of, lines_of_lanes, passes_of};
-ghost use Rattle.gor_run.specs.Serving.{AnswersPhase, EndsFrom, HasEnded, HasWritten, status_by, unless_stopped as status_unless};
+ghost use Rattle.gor_store.specs.Stores.{PassesHaveLeft, HasLeftFor, ClosingHasLeft, HasMadeNothing, IsAtRest, IsSameStore, events_of, lines_of_lanes, passes_of_store};
+ghost use Rattle.gor_run.specs.Serving.{AnswersPhase, EndsFrom, ShardHasEnded, HasWritten, status_by, unless_shard_stopped};
 ghost use Rattle.gor_run.specs.TakenLines.{AreTakenPhases, IsTakenPhase, lines_of_phases};
 
 use crate::outcome::Outcome;
@@ -60,9 +60,9 @@ fn answer_phase<D: Disk + Send, P: Pause + Sync, R: Threads + Wait + Sync>(
     requires left { HasLeftFor (phase_lines phase.now) store.old }
     ensures rests { IsAtRest store.new }
     ensures same { IsSameStore store.old store.new }
-    ensures left { (n : ℕ) → HasLeft (n + 3 * lines_of_lanes (phase_lines phase.now)) store.old → HasLeft n store.new }
-    ensures ok { IfOk result (λ text. AnswersPhase (phase_lines phase.now) (events_of store.old) (passes_of store.old) (passes_of store.new) text.items) }
-    ensures err { OnErr result (RanInPart (phase_lines phase.now) (events_of store.old) (passes_of store.old) (passes_of store.new)) }
+    ensures left { (n : ℕ) → PassesHaveLeft (n + 3 * lines_of_lanes (phase_lines phase.now)) store.old → PassesHaveLeft n store.new }
+    ensures ok { IfOk result (λ text. AnswersPhase (phase_lines phase.now) (events_of store.old) (passes_of_store store.old) (passes_of_store store.new) text.items) }
+    ensures err { OnErr result (RanInPart (phase_lines phase.now) (events_of store.old) (passes_of_store store.old) (passes_of_store store.new)) }
 {
     let told = store.run_phase(rt, alloc, phase, pause)?;
     text_of(alloc, &told)
@@ -79,13 +79,13 @@ fn write_phases<K: Sink, D: Disk + Send, P: Pause + Sync, R: Threads + Wait + Sy
 ) -> Result<(), PhaseFault>
     requires rests { IsAtRest store.old }
     requires fresh { HasMadeNothing store.old }
-    requires left { HasLeft (2 ^ 40) store.old }
+    requires left { PassesHaveLeft (2 ^ 40) store.old }
     requires taken { AreTakenPhases (map phase_lines phases.now) }
     requires few { lines_of_phases (map phase_lines phases.now) ≤ 16777217 }
     ensures rests { IsAtRest store.new }
     ensures same { IsSameStore store.old store.new }
     ensures left { ClosingHasLeft 16388 store.new }
-    ensures written { HasWritten result (passes_of store.new) (map phase_lines phases.now) (K.held sink.old) (K.held sink.new) (K.faults sink.old) (K.faults sink.new) }
+    ensures written { HasWritten result (passes_of_store store.new) (map phase_lines phases.now) (K.held sink.old) (K.held sink.new) (K.faults sink.old) (K.faults sink.new) }
 {
     for phase in phases {
         let text = match answer_phase(rt, alloc, store, phase, pause) {
@@ -104,7 +104,7 @@ fn write_phases<K: Sink, D: Disk + Send, P: Pause + Sync, R: Threads + Wait + Sy
 fn end<D: Disk + Send, R: Wait>(rt: &R, store: Store<D>) -> Ended<D>
     requires rests { IsAtRest store }
     requires left { ClosingHasLeft 16388 store }
-    ensures { HasEnded D.tells D.view D.faults store result.stopped result.disks.items }
+    ensures { ShardHasEnded D.tells D.view D.faults store result.stopped result.disks.items }
 {
     let mut store = store;
     let stopped = store.flush_all(rt);
@@ -114,7 +114,7 @@ fn end<D: Disk + Send, R: Wait>(rt: &R, store: Store<D>) -> Ended<D>
 
 /// The status of a run of which a shard may be stopped.
 fn unless_stopped(stopped: Option<u32>, status: Status) -> Status
-    ensures { result ≡ status_unless stopped status }
+    ensures { result ≡ unless_shard_stopped stopped status }
 {
     match stopped {
         Some(shard) => Status::DeviceFault { shard },
@@ -143,7 +143,7 @@ pub fn serve<K: Sink, D: Disk + Send, P: Pause + Sync, R: AllocGlobal + Threads 
 ) -> Outcome<D>
     requires rests { IsAtRest store }
     requires fresh { HasMadeNothing store }
-    requires left { HasLeft (2 ^ 40) store }
+    requires left { PassesHaveLeft (2 ^ 40) store }
     requires taken { AreTakenPhases (map phase_lines phases.now) }
     requires few { lines_of_phases (map phase_lines phases.now) ≤ 16777217 }
     ensures { EndsFrom D.Disk K.Sink sink.old sink.new store (map phase_lines phases.now) result }

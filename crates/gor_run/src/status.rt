@@ -1,6 +1,6 @@
 //! How a call ended: its number, and its words for a person.
 ghost use Rattle.std.specs.Prelude.{◌≡◌};
-ghost use Rattle.gor_run.specs.Statuses.{number_of};
+ghost use Rattle.gor_run.specs.Statuses.{status_number};
 
 use gor_folder::FileName;
 use gor_image::{DamageKind, ImageFault};
@@ -32,7 +32,7 @@ pub enum Status {
 impl Status {
     /// The number with which the process ends.
     pub fn number(self) -> u8
-        ensures { result ≡ number_of self }
+        ensures { result ≡ status_number self }
     {
         match self {
             Status::Ok => 0,

@@ -1,6 +1,6 @@
 //! The words of the command line.
 ghost use Rattle.std.specs.Prelude.{◌≡◌, option_map};
-ghost use Rattle.gor_run.specs.Words.{words_of, equals_in, before_rest, with_next, parted, named, first_option, found, slots_for, slots_of_one, slots_of_two, slots_of_last, slots_behind, slots_from, slots_of_options, slots_of_run, gives_one_shard, are_dump_options, asks_dump};
+ghost use Rattle.gor_run.specs.Words.{words_of_strings, equals_in, before_rest, with_next, parted, option_named, first_option, found, slots_for, slots_of_one, slots_of_two, slots_of_last, slots_behind, slots_from, slots_of_options, slots_of_run, gives_one_shard, are_dump_options, asks_dump};
 
 use gor_text::read_number;
 
@@ -28,7 +28,7 @@ struct Spelled<'a> {
 
 /// The option of a name, with the value that a text writes.
 fn named(name: &[u8], value: &[u8]) -> Option<Given>
-    ensures { result ≡ named name.now value.now }
+    ensures { result ≡ option_named name.now value.now }
 {
     if name == b"--shards".as_slice() {
         Some(Given::Shards(read_number(value)?))
@@ -48,7 +48,7 @@ fn equals_in(word: &[u8]) -> Option<usize>
 
 /// An option in front of the words behind it.
 fn before_rest(rest: &[String], given: Option<Given>) -> Option<Spelled<'_>>
-    ensures { option_map (λ option. found (words_of option.rest.now) option.given) result ≡ before_rest (words_of rest.now) given }
+    ensures { option_map (λ option. found (words_of_strings option.rest.now) option.given) result ≡ before_rest (words_of_strings rest.now) given }
 {
     match given {
         Some(given) => Some(Spelled { given, rest }),
@@ -58,7 +58,7 @@ fn before_rest(rest: &[String], given: Option<Given>) -> Option<Spelled<'_>>
 
 /// The option of a name whose value is the next word.
 fn with_next<'a>(name: &[u8], words: &'a [String]) -> Option<Spelled<'a>>
-    ensures { option_map (λ option. found (words_of option.rest.now) option.given) result ≡ with_next name.now (words_of words.now) }
+    ensures { option_map (λ option. found (words_of_strings option.rest.now) option.given) result ≡ with_next name.now (words_of_strings words.now) }
 {
     match words {
         [] => None,
@@ -68,7 +68,7 @@ fn with_next<'a>(name: &[u8], words: &'a [String]) -> Option<Spelled<'a>>
 
 /// The option that a word spells, alone or with the next one.
 fn parted<'a>(word: &[u8], rest: &'a [String]) -> Option<Spelled<'a>>
-    ensures { option_map (λ option. found (words_of option.rest.now) option.given) result ≡ parted word.now (words_of rest.now) (equals_in word.now) }
+    ensures { option_map (λ option. found (words_of_strings option.rest.now) option.given) result ≡ parted word.now (words_of_strings rest.now) (equals_in word.now) }
 {
     match equals_in(word) {
         Some(at) => before_rest(rest, named(&word[..at], &word[at + 1..])),
@@ -78,7 +78,7 @@ fn parted<'a>(word: &[u8], rest: &'a [String]) -> Option<Spelled<'a>>
 
 /// The first option of some words: `--NAME=VALUE`, or `--NAME` and its value as the next word.
 fn first_option(words: &[String]) -> Option<Spelled<'_>>
-    ensures { option_map (λ option. found (words_of option.rest.now) option.given) result ≡ first_option (words_of words.now) }
+    ensures { option_map (λ option. found (words_of_strings option.rest.now) option.given) result ≡ first_option (words_of_strings words.now) }
 {
     match words {
         [] => None,
@@ -118,7 +118,7 @@ fn slots_of_two(first: Given, second: Given) -> Option<u64>
 
 /// The slots by a first option and the last one.
 fn slots_of_last(first: Given, second: Option<Spelled<'_>>) -> Option<u64>
-    ensures { result ≡ slots_of_last first (option_map (λ option. found (words_of option.rest.now) option.given) second.entry) }
+    ensures { result ≡ slots_of_last first (option_map (λ option. found (words_of_strings option.rest.now) option.given) second.entry) }
 {
     match second {
         Some(Spelled { given, rest: [] }) => slots_of_two(first, given),
@@ -128,7 +128,7 @@ fn slots_of_last(first: Given, second: Option<Spelled<'_>>) -> Option<u64>
 
 /// The slots by a first option and the words behind it.
 fn slots_behind(first: Given, words: &[String]) -> Option<u64>
-    ensures { result ≡ slots_behind first (words_of words.now) }
+    ensures { result ≡ slots_behind first (words_of_strings words.now) }
 {
     match words {
         [] => slots_of_one(first),
@@ -138,7 +138,7 @@ fn slots_behind(first: Given, words: &[String]) -> Option<u64>
 
 /// The slots by a first option, if there is one, and the words behind it.
 fn slots_from(first: Option<Spelled<'_>>) -> Option<u64>
-    ensures { result ≡ slots_from (option_map (λ option. found (words_of option.rest.now) option.given) first.entry) }
+    ensures { result ≡ slots_from (option_map (λ option. found (words_of_strings option.rest.now) option.given) first.entry) }
 {
     match first {
         Some(Spelled { given, rest }) => slots_behind(given, rest),
@@ -147,7 +147,7 @@ fn slots_from(first: Option<Spelled<'_>>) -> Option<u64>
 }
 
 fn slots_of_options(words: &[String]) -> Option<u64>
-    ensures { result ≡ slots_of_options (words_of words.now) }
+    ensures { result ≡ slots_of_options (words_of_strings words.now) }
 {
     match words {
         [] => Some(SLOTS_UNLESS_GIVEN),
@@ -158,7 +158,7 @@ fn slots_of_options(words: &[String]) -> Option<u64>
 /// The slots of the shard that the words of a run ask for, from 1 to 16,384; `None` exactly where they are not those of a
 /// run.
 pub fn slots_of_run(words: &[String]) -> Option<u64>
-    ensures { result ≡ slots_of_run (words_of words.now) }
+    ensures { result ≡ slots_of_run (words_of_strings words.now) }
 {
     match words {
         [first, rest @ ..] if first.as_str().as_bytes() == b"run".as_slice() => {
@@ -170,7 +170,7 @@ pub fn slots_of_run(words: &[String]) -> Option<u64>
 
 /// Whether an option, if there is one, gives one shard and is the last word.
 fn gives_one_shard(option: Option<Spelled<'_>>) -> bool
-    ensures { result ≡ gives_one_shard (option_map (λ option. found (words_of option.rest.now) option.given) option.entry) }
+    ensures { result ≡ gives_one_shard (option_map (λ option. found (words_of_strings option.rest.now) option.given) option.entry) }
 {
     match option {
         Some(
@@ -184,7 +184,7 @@ fn gives_one_shard(option: Option<Spelled<'_>>) -> bool
 }
 
 fn are_dump_options(words: &[String]) -> bool
-    ensures { result ≡ are_dump_options (words_of words.now) }
+    ensures { result ≡ are_dump_options (words_of_strings words.now) }
 {
     match words {
         [] => true,
@@ -194,7 +194,7 @@ fn are_dump_options(words: &[String]) -> bool
 
 /// Whether the words are those of a dump of one shard.
 pub fn asks_dump(words: &[String]) -> bool
-    ensures { result ≡ asks_dump (words_of words.now) }
+    ensures { result ≡ asks_dump (words_of_strings words.now) }
 {
     match words {
         [first, rest @ ..] => {

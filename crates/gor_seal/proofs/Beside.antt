@@ -5,21 +5,21 @@ use Rattle.std.specs.List.{AllByRecursion, range_with_len}
 use Rattle.std.proofs.lemmas.Bool.{cases_lt}
 use Rattle.gor_disk.specs.declared.disk.FileId.{FileId}
 use Rattle.gor_disk.specs.declared.disk.FileId.TheVariants.{Marks, Keys, Log, Block}
-use Rattle.gor_disk.specs.Disk.{DiskView, Contents, IsImage, LeavesSince, Touches, held_now}
+use Rattle.gor_disk.specs.Disk.{DiskView, Contents, IsImage, LeavesSince, TouchesFile, held_now}
 use Rattle.gor_disk.specs.Names.{with_file}
 use Rattle.gor_disk.proofs.Restored.{put_other, restored}
 use Rattle.gor_disk.proofs.Runs.{and_then as and_so}
-use Rattle.gor_gate.specs.Gates.{gates, ended, IsClosed}
+use Rattle.gor_gate.specs.Gates.{gates, ended_walk, IsClosed}
 use Rattle.gor_model.specs.declared.event.Change.{Change}
 use Rattle.gor_model.specs.declared.start.Start.{Start}
 use Rattle.gor_marks.specs.declared.mark.Mark.{Mark}
 use Rattle.gor_image.specs.declared.fault.ImageFault.{ImageFault}
-use Rattle.gor_image.specs.Records.{Batch, BlockRow, Files}
+use Rattle.gor_image.specs.Records.{BatchInLog, BlockRow, Files}
 use Rattle.gor_image.specs.Recovery.{ShardMap}
 use Rattle.gor_image.specs.Grammars.{and_then, rows_at}
 use Rattle.gor_image.specs.Images.{in_file, read_gated, KeysRead, read_keys, read_batch, read_logs, read_blocks, read_mark, read_files, marks_of, map_of, map_of_marks, map_of_files, current, base_of, or_zero, first_log_of, live_windows, sealed_window, remaining_logs, same_home}
 use Rattle.gor_image.specs.Appends.{keys_from, files_as}
-use Rattle.gor_image.specs.Laws.{IsBefore}
+use Rattle.gor_image.specs.Laws.{MayBeWrittenOn}
 use Rattle.gor_image.specs.Fit.{HasBody, IsFitBy}
 use Rattle.gor_image.proofs.Pushed.{gated_same}
 use Rattle.gor_seal.specs.Sealing.{IsBeyond, KeepsBeside}
@@ -34,12 +34,12 @@ pub record AreNamedAlike (marks : List Mark) (given image : Contents) : Type 0 w
 -- ---- then reading them gives the same
 
 module _ (given image : Contents) where
-  logs_same : (a n : ℕ) → ((l : ℕ) → a ≤ l → l < a + n → image (Log l) ≡ given (Log l)) → (s : List Batch) → read_logs image (range_with_len a n) s ≡ read_logs given (range_with_len a n) s
+  logs_same : (a n : ℕ) → ((l : ℕ) → a ≤ l → l < a + n → image (Log l) ≡ given (Log l)) → (s : List BatchInLog) → read_logs image (range_with_len a n) s ≡ read_logs given (range_with_len a n) s
   logs_same a zero same s = refl
   logs_same a (suc n) same s =
-      ap (λ (r : Result (List Batch) ImageFault). and_then r (λ more. read_logs image (range_with_len (a + 1) n) more)) (gated_same given image (read_batch a) (Log a) s (ap gates (same a (omega arith) (omega arith))))
+      ap (λ (r : Result (List BatchInLog) ImageFault). and_then r (λ more. read_logs image (range_with_len (a + 1) n) more)) (gated_same given image (read_batch a) (Log a) s (ap gates (same a (omega arith) (omega arith))))
       ∙ on (read_gated given (read_batch a) (Log a) s) (λ u. logs_same (a + 1) n (λ l low high. same l (omega arith) (omega arith)) u) where
-        on : (r : Result (List Batch) ImageFault) → ((u : List Batch) → read_logs image (range_with_len (a + 1) n) u ≡ read_logs given (range_with_len (a + 1) n) u)
+        on : (r : Result (List BatchInLog) ImageFault) → ((u : List BatchInLog) → read_logs image (range_with_len (a + 1) n) u ≡ read_logs given (range_with_len (a + 1) n) u)
             → and_then r (λ more. read_logs image (range_with_len (a + 1) n) more) ≡ and_then r (λ more. read_logs given (range_with_len (a + 1) n) more)
         on (Ok u) further = further u
         on (Err f) further = refl
@@ -84,7 +84,7 @@ module _ (marks : List Mark) (given image : Contents) (same : AreNamedAlike mark
       (gated_same given image (read_keys (nat_lt 0 (current marks))) (Keys (current marks)) (keys_from (base_of marks).upto) (ap gates same.keys))
       ∙ ap (λ (r : Result (List BlockRow) ImageFault). and_then (read_gated given (read_keys (nat_lt 0 (current marks))) (Keys (current marks)) (keys_from (base_of marks).upto))
       (λ keys. and_then r (λ blocks. and_then (read_logs image (remaining_logs marks) []) (λ batches. Ok (files_as marks keys blocks batches))))) (blocks_same given image (live_windows marks) same.blocks)
-      ∙ ap (λ (r : Result (List Batch) ImageFault). and_then (read_gated given (read_keys (nat_lt 0 (current marks))) (Keys (current marks)) (keys_from (base_of marks).upto))
+      ∙ ap (λ (r : Result (List BatchInLog) ImageFault). and_then (read_gated given (read_keys (nat_lt 0 (current marks))) (Keys (current marks)) (keys_from (base_of marks).upto))
       (λ keys. and_then (read_blocks given (live_windows marks)) (λ blocks. and_then r (λ batches. Ok (files_as marks keys blocks batches))))) same_logs
 
   pub alike_marks : marks_of given ≡ Ok marks → marks_of image ≡ Ok marks
@@ -96,7 +96,7 @@ module _ (marks : List Mark) (given image : Contents) (same : AreNamedAlike mark
       ∙ map_same given image shards shard marks same_files
       ∙ sym (ap (λ (r : Result (List Mark) ImageFault). and_then r (map_of_marks given shards shard)) are)
 
-  pub alike_before : (shards shard : ℕ) (start : Start) (C : List Change) → IsClosed (image Marks) → IsBefore shards shard given marks start C → IsBefore shards shard image marks start C
+  pub alike_before : (shards shard : ℕ) (start : Start) (C : List Change) → IsClosed (image Marks) → MayBeWrittenOn shards shard given marks start C → MayBeWrittenOn shards shard image marks start C
   alike_before shards shard start C closed before = record {
     fit = record {
       fit = record {
@@ -155,7 +155,7 @@ module _ (marks : List Mark) (given image : Contents) where
 not_marks : (marks : List Mark) (file : FileId) → IsBeyond marks file → Marks ≢ file
 not_marks marks file beyond e = subst (IsBeyond marks) (sym e) beyond
 
-module _ (file : FileId) (old new : DiskView) (stays : IsImage (held_now old file) (old.seen file)) (touches : Touches file (λ bytes. ⊤) old new) (marks : List Mark) (beyond : IsBeyond marks file) where
+module _ (file : FileId) (old new : DiskView) (stays : IsImage (held_now old file) (old.seen file)) (touches : TouchesFile file (λ bytes. ⊤) old new) (marks : List Mark) (beyond : IsBeyond marks file) where
   -- a property that images have alike
   over : (P : Contents → Type 0) → ((given image : Contents) → AreNamedAlike marks given image → image Marks ≡ given Marks → P given → P image) → LeavesSince old.moment old P → LeavesSince old.moment new P
   over P goes all k image low high is = ⊎_elim
@@ -172,18 +172,18 @@ module _ (file : FileId) (old new : DiskView) (stays : IsImage (held_now old fil
     maps answer = over (λ image. (marks_of image ≡ Ok marks) × (map_of image shards shard ≡ answer)) (λ given image same named was.
         (alike_marks marks given image same was.0, alike_map marks given image same shards shard was.0 ∙ was.1))
 
-    states : (start : Start) (C : List Change) → LeavesSince old.moment old (λ image. IsBefore shards shard image marks start C) → LeavesSince old.moment new (λ image. IsBefore shards shard image marks start C)
-    states start C = over (λ image. IsBefore shards shard image marks start C) (λ given image same named before.
+    states : (start : Start) (C : List Change) → LeavesSince old.moment old (λ image. MayBeWrittenOn shards shard image marks start C) → LeavesSince old.moment new (λ image. MayBeWrittenOn shards shard image marks start C)
+    states start C = over (λ image. MayBeWrittenOn shards shard image marks start C) (λ given image same named before.
         alike_before marks given image same shards shard start C (subst IsClosed (sym named) before.fit.fit.closed) before)
 
-pub keeps_beside : (file : FileId) (old new : DiskView) → IsImage (held_now old file) (old.seen file) → Touches file (λ bytes. ⊤) old new → KeepsBeside file old new
+pub keeps_beside : (file : FileId) (old new : DiskView) → IsImage (held_now old file) (old.seen file) → TouchesFile file (λ bytes. ⊤) old new → KeepsBeside file old new
 keeps_beside file old new stays touches = record {
   map = λ marks beyond shards shard answer. maps file old new stays touches marks beyond shards shard answer;
   state = λ marks beyond shards shard start C. states file old new stays touches marks beyond shards shard start C;
 }
 
-pub loosened : (file f : FileId) (P : List ℕ → Type 0) (old new : DiskView) → f ≡ file → Touches f P old new → Touches file (λ bytes. ⊤) old new
-loosened file f P old new named touches = subst (λ x. Touches x (λ bytes. ⊤) old new) named (record {
+pub loosened : (file f : FileId) (P : List ℕ → Type 0) (old new : DiskView) → f ≡ file → TouchesFile f P old new → TouchesFile file (λ bytes. ⊤) old new
+loosened file f P old new named touches = subst (λ x. TouchesFile x (λ bytes. ⊤) old new) named (record {
   later = touches.later;
   past = touches.past;
   within = λ t c low high image. tt;
@@ -191,10 +191,10 @@ loosened file f P old new named touches = subst (λ x. Touches x (λ bytes. ⊤)
   other_bytes = touches.other_bytes;
 })
 
-pub two_calls : (file : FileId) (old mid new : DiskView) → IsImage (held_now old file) (old.seen file) → Touches file (λ bytes. ⊤) old mid → Touches file (λ bytes. ⊤) mid new → KeepsBeside file old new
+pub two_calls : (file : FileId) (old mid new : DiskView) → IsImage (held_now old file) (old.seen file) → TouchesFile file (λ bytes. ⊤) old mid → TouchesFile file (λ bytes. ⊤) mid new → KeepsBeside file old new
 two_calls file old mid new stays first second = keeps_beside file old new stays (and_so file (λ bytes. ⊤) old mid new first second)
 
 -- an empty file has no bodies
-pub no_bodies : (bytes : List ℕ) → bytes ≡ [] → gates bytes ≡ ended 0 true
+pub no_bodies : (bytes : List ℕ) → bytes ≡ [] → gates bytes ≡ ended_walk 0 true
 unfolding gates
 no_bodies bytes is = ap (λ (b : List ℕ). gates b) is

@@ -3,18 +3,18 @@ use Rattle.std.proofs.Common.{◌≡◌, ◌≢◌, ◌⊎◌, inl, inr, ⊎_eli
 use Rattle.std.proofs.lemmas.Bool.{cases_lt}
 use Rattle.gor_disk.specs.declared.disk.FileId.{FileId}
 use Rattle.gor_disk.specs.declared.disk.FileId.TheVariants.{Marks, Keys, Log, Block}
-use Rattle.gor_disk.specs.Disk.{DiskView, Contents, IsImage, IsImageAt, LeavesSince, Touches, held_now}
+use Rattle.gor_disk.specs.Disk.{DiskView, Contents, IsImage, IsImageAt, LeavesSince, TouchesFile, held_now}
 use Rattle.gor_disk.specs.Names.{with_file}
 use Rattle.gor_disk.proofs.Restored.{put_here, put_other, restored}
 use Rattle.gor_disk.proofs.Runs.{still}
-use Rattle.gor_gate.specs.Gates.{gates, IsClosed, IsOldOrNew, pushed}
-use Rattle.gor_gate.specs.Places.{Place, IsEnsured}
+use Rattle.gor_gate.specs.Gates.{gates, IsClosed, IsOldOrNew, body_pushed}
+use Rattle.gor_gate.specs.Places.{GatedPlace, IsEnsured}
 use Rattle.gor_gate.proofs.Ensured.{as_it_is, closed_if_ready}
 use Rattle.gor_model.specs.declared.event.Change.{Change}
 use Rattle.gor_model.specs.declared.start.Start.{Start}
 use Rattle.gor_marks.specs.declared.mark.Mark.{Mark}
 use Rattle.gor_image.specs.Images.{current, live_windows}
-use Rattle.gor_image.specs.Laws.{IsBefore}
+use Rattle.gor_image.specs.Laws.{MayBeWrittenOn}
 use Rattle.gor_seal.specs.Turning.{CanTurn, TurnsAtOnce, HasTurned}
 use Rattle.gor_seal.proofs.Beside.{AreNamedAlike, alike_before, all_of}
 
@@ -27,10 +27,10 @@ list_alike marks given image list others = record {
   blocks = all_of (λ w. image (Block w) ≡ given (Block w)) (λ w. others (Block w) (λ e. absurd cc)) (live_windows marks);
 }
 
-module _ (body : List ℕ) (old new : DiskView) (stays : IsImage (held_now old Marks) (old.seen Marks)) (touches : Touches Marks (IsOldOrNew (gates (old.seen Marks)) body) old new) where
+module _ (body : List ℕ) (old new : DiskView) (stays : IsImage (held_now old Marks) (old.seen Marks)) (touches : TouchesFile Marks (IsOldOrNew (gates (old.seen Marks)) body) old new) where
   module _ (marks after : List Mark) (shards shard : ℕ) (start : Start) (C : List Change) (can : CanTurn body marks after shards shard start C old) where
     abbrev Either : Contents → Type 0
-    Either image = IsBefore shards shard image marks start C ⊎ IsBefore shards shard image after start C
+    Either image = MayBeWrittenOn shards shard image marks start C ⊎ MayBeWrittenOn shards shard image after start C
 
     -- an image of later, with the old marks put back
     module _ (image : Contents) (others : (f : FileId) → f ≢ Marks → IsImage (held_now old f) (image f)) where
@@ -46,10 +46,10 @@ module _ (body : List ℕ) (old new : DiskView) (stays : IsImage (held_now old M
       rest : (f : FileId) → f ≢ Marks → image f ≡ given f
       rest f apart = sym (put_other image Marks (old.seen Marks) f apart)
 
-      pub by_after : gates (image Marks) ≡ pushed body (gates (old.seen Marks)) → IsClosed (image Marks) → IsBefore shards shard image after start C
-      by_after list closed = can.next given image was (record { list = list ∙ ap (λ b. pushed body (gates b)) (sym put); closed = closed; others = rest })
+      pub by_after : gates (image Marks) ≡ body_pushed body (gates (old.seen Marks)) → IsClosed (image Marks) → MayBeWrittenOn shards shard image after start C
+      by_after list closed = can.next given image was (record { list = list ∙ ap (λ b. body_pushed body (gates b)) (sym put); closed = closed; others = rest })
 
-      by_before : gates (image Marks) ≡ gates (old.seen Marks) → IsClosed (image Marks) → IsBefore shards shard image marks start C
+      by_before : gates (image Marks) ≡ gates (old.seen Marks) → IsClosed (image Marks) → MayBeWrittenOn shards shard image marks start C
       by_before list closed =
           alike_before marks given image (list_alike marks given image (list ∙ ap gates (sym put)) rest) shards shard start C closed (can.before old.moment given (omega arith) (omega arith) was)
 
@@ -62,7 +62,7 @@ module _ (body : List ℕ) (old new : DiskView) (stays : IsImage (held_now old M
         (λ (early : k ≤ old.moment). inl (can.before k image low early (λ f. subst (λ h. IsImage h (image f)) (touches.past k f early) (is f))))
         (cases_lt old.moment k)
 
-    pub at_last : (place : Place) → place.file ≡ Marks → IsEnsured place new → gates (new.seen Marks) ≡ pushed body (gates (old.seen Marks)) → LeavesSince new.moment new (λ image. IsBefore shards shard image after start C)
+    pub at_last : (place : GatedPlace) → place.file ≡ Marks → IsEnsured place new → gates (new.seen Marks) ≡ body_pushed body (gates (old.seen Marks)) → LeavesSince new.moment new (λ image. MayBeWrittenOn shards shard image after start C)
     at_last place named ensured list k image low high is =
         let now : k ≡ new.moment = omega arith in
         let here : IsImageAt new new.moment image = subst (λ t. IsImageAt new t image) now is in
@@ -74,5 +74,5 @@ module _ (body : List ℕ) (old new : DiskView) (stays : IsImage (held_now old M
   pub turns : TurnsAtOnce body old new
   turns marks after shards shard start C can = at_each marks after shards shard start C can
 
-  pub turned : (place : Place) → place.file ≡ Marks → IsEnsured place new → gates (new.seen Marks) ≡ pushed body (gates (old.seen Marks)) → HasTurned body old new
+  pub turned : (place : GatedPlace) → place.file ≡ Marks → IsEnsured place new → gates (new.seen Marks) ≡ body_pushed body (gates (old.seen Marks)) → HasTurned body old new
   turned place named ensured list marks after shards shard start C can = at_last marks after shards shard start C can place named ensured list

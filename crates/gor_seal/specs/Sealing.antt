@@ -10,7 +10,7 @@ use Rattle.gor_marks.specs.declared.mark.Mark.{Mark}
 use Rattle.gor_image.specs.declared.fault.ImageFault.{ImageFault}
 use Rattle.gor_image.specs.Recovery.{ShardMap}
 use Rattle.gor_image.specs.Images.{current, sealed_window, marks_of, map_of}
-use Rattle.gor_image.specs.Laws.{IsBefore}
+use Rattle.gor_image.specs.Laws.{MayBeWrittenOn}
 
 -- A file that comes after all that these marks name: a key list or a log whose number is above the count of sealed marks, or the
 -- block file of a window above that of each.
@@ -31,4 +31,4 @@ pub record KeepsBeside (file : FileId) (old new : DiskView) : Type 0 where
   pub map : (marks : List Mark) → IsBeyond marks file → (shards shard : ℕ) (answer : Result ShardMap ImageFault)
       → LeavesSince old.moment old (λ image. (marks_of image ≡ Ok marks) × (map_of image shards shard ≡ answer)) → LeavesSince old.moment new (λ image. (marks_of image ≡ Ok marks) × (map_of image shards shard ≡ answer))
   pub state : (marks : List Mark) → IsBeyond marks file → (shards shard : ℕ) (start : Start) (C : List Change)
-      → LeavesSince old.moment old (λ image. IsBefore shards shard image marks start C) → LeavesSince old.moment new (λ image. IsBefore shards shard image marks start C)
+      → LeavesSince old.moment old (λ image. MayBeWrittenOn shards shard image marks start C) → LeavesSince old.moment new (λ image. MayBeWrittenOn shards shard image marks start C)

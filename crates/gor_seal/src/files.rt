@@ -1,8 +1,8 @@
 //! The files that are new with a mark: a block file, a key list and a log.
 ghost use Rattle.std.specs.Prelude.{◌≡◌, [], true, IsTrue, IfOk, OnOk, ⊤};
 ghost use Rattle.gor_disk.specs.declared.disk.FileId.TheVariants.{Keys, Log, Block};
-ghost use Rattle.gor_disk.specs.Disk.{Touches, CountsFault};
-ghost use Rattle.gor_gate.specs.Gates.{gates, ended, pushed};
+ghost use Rattle.gor_disk.specs.Disk.{TouchesFile, CountsFault};
+ghost use Rattle.gor_gate.specs.Gates.{gates, ended_walk, body_pushed};
 ghost use Rattle.gor_gate.specs.Places.{IsEnsured};
 ghost use Rattle.gor_seal.specs.Sealing.{IsWritten, KeepsBeside};
 
@@ -11,7 +11,7 @@ use gor_gate::{Frame, Gated};
 
 /// Cuts a file to nothing, whatever stood there. It is not stable before the file is synced.
 fn cut_all<D: Disk>(disk: &mut D, file: FileId) -> Result<(), DeviceFault>
-    ensures touched { IsTrue D.tells → Touches file (λ bytes. ⊤) (D.view disk.old) (D.view disk.new) }
+    ensures touched { IsTrue D.tells → TouchesFile file (λ bytes. ⊤) (D.view disk.old) (D.view disk.new) }
     ensures empty { IsTrue D.tells → OnOk result ((D.view disk.new).seen file ≡ []) }
     ensures cause { CountsFault result (D.faults disk.old) (D.faults disk.new) }
 {
@@ -24,7 +24,7 @@ fn cut_all<D: Disk>(disk: &mut D, file: FileId) -> Result<(), DeviceFault>
 /// Writes bytes into an empty file, and has them stable.
 fn write_whole<D: Disk>(disk: &mut D, file: FileId, bytes: &[u8]) -> Result<(), DeviceFault>
     requires { IsTrue D.tells → (D.view disk.old).seen file ≡ [] }
-    ensures touched { IsTrue D.tells → Touches file (λ bytes. ⊤) (D.view disk.old) (D.view disk.new) }
+    ensures touched { IsTrue D.tells → TouchesFile file (λ bytes. ⊤) (D.view disk.old) (D.view disk.new) }
     ensures written { IsTrue D.tells → OnOk result (IsWritten file bytes.now (D.view disk.new)) }
     ensures cause { CountsFault result (D.faults disk.old) (D.faults disk.new) }
 {
@@ -44,7 +44,7 @@ fn write_whole<D: Disk>(disk: &mut D, file: FileId, bytes: &[u8]) -> Result<(), 
 /// are stable. `DeviceFault` comes only where the disk's count of faults rose; the file may then hold anything, and the same
 /// call may be made again.
 pub fn write_blocks<D: Disk>(disk: &mut D, window: u32, bytes: &[u8]) -> Result<(), DeviceFault>
-    ensures touched { IsTrue D.tells → Touches (Block window) (λ bytes. ⊤) (D.view disk.old) (D.view disk.new) }
+    ensures touched { IsTrue D.tells → TouchesFile (Block window) (λ bytes. ⊤) (D.view disk.old) (D.view disk.new) }
     ensures written { IsTrue D.tells → OnOk result (IsWritten (Block window) bytes.now (D.view disk.new)) }
     ensures kept { IsTrue D.tells → KeepsBeside (Block window) (D.view disk.old) (D.view disk.new) }
     ensures cause { CountsFault result (D.faults disk.old) (D.faults disk.new) }
@@ -66,9 +66,9 @@ pub fn write_keys_file<D: Disk>(
     frame: &mut Frame,
 ) -> Result<Gated, DeviceFault>
     ensures file { IfOk result (λ r. r.file ≡ Keys keys) }
-    ensures touched { IsTrue D.tells → Touches (Keys keys) (λ bytes. ⊤) (D.view disk.old) (D.view disk.new) }
+    ensures touched { IsTrue D.tells → TouchesFile (Keys keys) (λ bytes. ⊤) (D.view disk.old) (D.view disk.new) }
     ensures ensured { IsTrue D.tells → IfOk result (λ r. IsEnsured r (D.view disk.new)) }
-    ensures list { IsTrue D.tells → OnOk result (gates ((D.view disk.new).seen (Keys keys)) ≡ pushed frame.old.body (ended 0 true)) }
+    ensures list { IsTrue D.tells → OnOk result (gates ((D.view disk.new).seen (Keys keys)) ≡ body_pushed frame.old.body (ended_walk 0 true)) }
     ensures kept { IsTrue D.tells → KeepsBeside (Keys keys) (D.view disk.old) (D.view disk.new) }
     ensures frame { frame.new.body ≡ frame.old.body }
     ensures spare { frame.new.spare ≡ frame.old.spare }
@@ -89,9 +89,9 @@ pub fn write_keys_file<D: Disk>(
 /// made again.
 pub fn begin_log<D: Disk>(disk: &mut D, log: u32) -> Result<Gated, DeviceFault>
     ensures file { IfOk result (λ r. r.file ≡ Log log) }
-    ensures touched { IsTrue D.tells → Touches (Log log) (λ bytes. ⊤) (D.view disk.old) (D.view disk.new) }
+    ensures touched { IsTrue D.tells → TouchesFile (Log log) (λ bytes. ⊤) (D.view disk.old) (D.view disk.new) }
     ensures ensured { IsTrue D.tells → IfOk result (λ r. IsEnsured r (D.view disk.new)) }
-    ensures list { IsTrue D.tells → OnOk result (gates ((D.view disk.new).seen (Log log)) ≡ ended 0 true) }
+    ensures list { IsTrue D.tells → OnOk result (gates ((D.view disk.new).seen (Log log)) ≡ ended_walk 0 true) }
     ensures kept { IsTrue D.tells → KeepsBeside (Log log) (D.view disk.old) (D.view disk.new) }
     ensures cause { CountsFault result (D.faults disk.old) (D.faults disk.new) }
 {

@@ -1,8 +1,8 @@
 //! The mark that turns a store over to its new files.
 ghost use Rattle.std.specs.Prelude.{◌≡◌, IsTrue, OnOk};
 ghost use Rattle.gor_disk.specs.declared.disk.FileId.TheVariants.{Marks};
-ghost use Rattle.gor_disk.specs.Disk.{Touches, CountsFault};
-ghost use Rattle.gor_gate.specs.Gates.{gates, IsOldOrNew, pushed};
+ghost use Rattle.gor_disk.specs.Disk.{TouchesFile, CountsFault};
+ghost use Rattle.gor_gate.specs.Gates.{gates, IsOldOrNew, body_pushed};
 ghost use Rattle.gor_gate.specs.Places.{IsEnsured};
 ghost use Rattle.gor_seal.specs.Turning.{TurnsAtOnce, HasTurned};
 
@@ -24,9 +24,9 @@ pub fn write_mark_file<D: Disk>(
     requires file { marks.old.file ≡ Marks }
     requires ensured { IsTrue D.tells → IsEnsured marks.old (D.view disk.old) }
     ensures file { marks.new.file ≡ Marks }
-    ensures any_moment { IsTrue D.tells → Touches Marks (IsOldOrNew (gates ((D.view disk.old).seen Marks)) frame.old.body) (D.view disk.old) (D.view disk.new) }
+    ensures any_moment { IsTrue D.tells → TouchesFile Marks (IsOldOrNew (gates ((D.view disk.old).seen Marks)) frame.old.body) (D.view disk.old) (D.view disk.new) }
     ensures ensured { IsTrue D.tells → OnOk result (IsEnsured marks.new (D.view disk.new)) }
-    ensures appended { IsTrue D.tells → OnOk result (gates ((D.view disk.new).seen Marks) ≡ pushed frame.old.body (gates ((D.view disk.old).seen Marks))) }
+    ensures appended { IsTrue D.tells → OnOk result (gates ((D.view disk.new).seen Marks) ≡ body_pushed frame.old.body (gates ((D.view disk.old).seen Marks))) }
     ensures kept { IsTrue D.tells → TurnsAtOnce frame.old.body (D.view disk.old) (D.view disk.new) }
     ensures turned { IsTrue D.tells → OnOk result (HasTurned frame.old.body (D.view disk.old) (D.view disk.new)) }
     ensures frame { frame.new.body ≡ frame.old.body }

@@ -6,11 +6,11 @@ use Rattle.gor_image.specs.Images.{base_of}
 use Rattle.gor_recover.specs.Recovered.{recovered_start}
 use Rattle.gor_image.specs.Recovery.{base_end}
 use Rattle.gor_recover.specs.declared.recovered.Recovered.{Recovered}
-use Rattle.gor_flush.specs.Devices.{Shown, StandsFor}
+use Rattle.gor_flush.specs.Devices.{Shown, DeviceStandsFor}
 use Rattle.gor_flush.specs.Starts.{opened_start, start_with}
 use Rattle.gor_shard_tests.specs.Devices.{IsOfAnyRows}
 
-pub of_any_rows : (d : Shown) (r : Recovered) → d.tells ≡ false → r.floor ≡ 0 → r.next ≡ 1 → StandsFor d (start_with 2 r d) (device_share (start_with 2 r d) []) → IsOfAnyRows d
+pub of_any_rows : (d : Shown) (r : Recovered) → d.tells ≡ false → r.floor ≡ 0 → r.next ≡ 1 → DeviceStandsFor d (start_with 2 r d) (device_share (start_with 2 r d) []) → IsOfAnyRows d
 unfolding opened_start recovered_start
 of_any_rows d r silent floor next st = record {
   stands = λ slots rows start. record {

@@ -4,9 +4,9 @@ use Rattle.gor_model.specs.Shares.{device_share}
 use Rattle.gor_model.specs.Starts.{IsStart}
 use Rattle.gor_recover.specs.Recovered.{recovered_start}
 use Rattle.gor_recover.specs.declared.recovered.Recovered.{Recovered}
-use Rattle.gor_flush.specs.Devices.{Shown, StandsFor}
+use Rattle.gor_flush.specs.Devices.{Shown, DeviceStandsFor}
 use Rattle.gor_flush.specs.Starts.{start_with}
 
 -- whatever rows are recovered, it stands for its share of the empty history from them
 pub record IsOfAnyRows (d : Shown) : Type 0 where
-  pub stands : (slots : ℕ) (r : Recovered) → IsStart (recovered_start slots r) → StandsFor d (start_with slots r d) (device_share (start_with slots r d) [])
+  pub stands : (slots : ℕ) (r : Recovered) → IsStart (recovered_start slots r) → DeviceStandsFor d (start_with slots r d) (device_share (start_with slots r d) [])

@@ -2,7 +2,7 @@
 ghost use Rattle.std.specs.Prelude.{◌≡◌, false, IfOk};
 ghost use Rattle.gor_model.specs.Starts.{IsStart};
 ghost use Rattle.gor_recover.specs.Recovered.{recovered_start};
-ghost use Rattle.gor_flush.specs.Devices.{shown};
+ghost use Rattle.gor_flush.specs.Devices.{device_shown};
 ghost use Rattle.gor_flush.specs.Starts.{StandsAtStart};
 ghost use Rattle.gor_shard_tests.specs.Devices.{IsOfAnyRows};
 
@@ -22,8 +22,8 @@ use std::test::Fail;
 fn any_device<D: Disk>(device: Device<D>, recovered: &Recovered) -> Device<D>
     requires silent { D.tells ≡ false }
     requires empty { (recovered.now.floor ≡ 0) × (recovered.now.next ≡ 1) }
-    requires stands { StandsAtStart 2 recovered.now (shown D.tells D.view D.faults device) }
-    ensures { IsOfAnyRows (shown D.tells D.view D.faults result) }
+    requires stands { StandsAtStart 2 recovered.now (device_shown D.tells D.view D.faults device) }
+    ensures { IsOfAnyRows (device_shown D.tells D.view D.faults result) }
 {
     let _ = recovered;
     device
@@ -32,7 +32,7 @@ fn any_device<D: Disk>(device: Device<D>, recovered: &Recovered) -> Device<D>
 // The device of a disk that tells nothing.
 fn device_of<D: Disk>(alloc: Global, disk: D) -> Result<Device<D>, Fail>
     requires { D.tells ≡ false }
-    ensures { IfOk result (λ d. IsOfAnyRows (shown D.tells D.view D.faults d)) }
+    ensures { IfOk result (λ d. IsOfAnyRows (device_shown D.tells D.view D.faults d)) }
 {
     let Ok((device, recovered)) = Device::open(alloc, disk, 1, 0, 2) else {
         return Err(Fail::new("a device is opened"));

@@ -6,44 +6,44 @@ use Rattle.gor_model.specs.declared.unit.Unit.{Unit as TimeUnit}
 use Rattle.gor_model.specs.declared.unit.Unit.TheVariants.{Second, Milli}
 use Rattle.gor_model.specs.declared.wrong.Wrong.TheVariants.{Version, Short, Extra, Value, Row, Padding}
 use Rattle.gor_model.specs.declared.wrong.Misread.{Misread}
-use Rattle.gor_model.specs.Fields.{number_in, is_number, is_window, wrong, ◌>>=◌}
+use Rattle.gor_model.specs.Fields.{field_in, is_number, is_window, wrong, ◌>>=◌}
 use Rattle.gor_fields.specs.declared.field_fault.FieldFault.{FieldFault}
-use Rattle.gor_fields.specs.Readings.{Gives}
+use Rattle.gor_fields.specs.Readings.{GivesRead}
 use Rattle.gor_slab.specs.declared.row.SlabRow.{SlabRow}
 use Rattle.gor_slab.specs.declared.row.Sizes.{Sizes}
 use Rattle.gor_slab.specs.declared.row.SlabIndex.{SlabIndex}
-use Rattle.gor_slab.specs.Spelling.{Entry, entry, greatest_part, slab_len, slabs_for, magic, row, rows_of, IsFile, spelling}
+use Rattle.gor_slab.specs.Spelling.{BlockEntry, entry, greatest_part, slab_len, slabs_for, magic, row, slab_rows_of, IsFile, slab_spelling}
 
 -- ---- the header
 
 unfoldable pub unit_in : List ℕ → Result TimeUnit Misread
 unit_in bytes =
     if nat_lt (length bytes) 24 then wrong (length bytes) Short
-    else if not (number_in w32 0 bytes == magic) then wrong 0 Version
-    else if number_in w32 4 bytes == 1 then Ok Second
-    else if number_in w32 4 bytes == 2 then Ok Milli
+    else if not (field_in w32 0 bytes == magic) then wrong 0 Version
+    else if field_in w32 4 bytes == 1 then Ok Second
+    else if field_in w32 4 bytes == 2 then Ok Milli
     else wrong 0 Version
 
 abbrev pub sizes : ℕ → ℕ → Sizes
 sizes room rows = record { room = room; rows = rows }
 
 abbrev pub room_in : List ℕ → ℕ
-room_in bytes = number_in w64 8 bytes * slab_len
+room_in bytes = field_in w64 8 bytes * slab_len
 
 abbrev pub rows_len : List ℕ → ℕ
-rows_len bytes = number_in w64 16 bytes * 24
+rows_len bytes = field_in w64 16 bytes * 24
 
-abbrev pub end_in : List ℕ → ℕ
-end_in bytes = 24 + room_in bytes + rows_len bytes
+abbrev pub file_end_in : List ℕ → ℕ
+file_end_in bytes = 24 + room_in bytes + rows_len bytes
 
 -- neither product passes its limit, and the file ends where its rows end
 unfoldable pub sizes_in : List ℕ → Result Sizes Misread
 sizes_in bytes =
     if nat_lt greatest_part (room_in bytes) then wrong 8 Value
     else if nat_lt greatest_part (rows_len bytes) then wrong 16 Value
-    else if nat_lt (length bytes) (end_in bytes) then wrong (length bytes) Short
-    else if nat_lt (end_in bytes) (length bytes) then wrong (end_in bytes) Extra
-    else Ok (sizes (room_in bytes) (number_in w64 16 bytes))
+    else if nat_lt (length bytes) (file_end_in bytes) then wrong (length bytes) Short
+    else if nat_lt (file_end_in bytes) (length bytes) then wrong (file_end_in bytes) Extra
+    else Ok (sizes (room_in bytes) (field_in w64 16 bytes))
 
 -- ---- rows
 
@@ -52,18 +52,18 @@ abbrev pub is_window_of : ℕ → ℕ → Bool
 is_window_of last window = is_window window && nat_le window last
 
 -- the row that stands at a place of the file, whose block begins where that of the row before it ends
-unfoldable pub row_in : ℕ → ℕ → ℕ → ℕ → List ℕ → Result SlabRow Misread
-row_in last room at place bytes =
-    if not (is_number (number_in w64 0 bytes)) then wrong at Value
-    else if not (is_window_of last (number_in w32 8 bytes)) then wrong (at + 8) Value
-    else if not ((number_in w64 12 bytes == place) && nat_le (place + number_in w32 20 bytes) room) then wrong at Row
-    else Ok (row (number_in w64 0 bytes) (number_in w32 8 bytes) (number_in w64 12 bytes) (number_in w32 20 bytes))
+unfoldable pub slab_row_in : ℕ → ℕ → ℕ → ℕ → List ℕ → Result SlabRow Misread
+slab_row_in last room at place bytes =
+    if not (is_number (field_in w64 0 bytes)) then wrong at Value
+    else if not (is_window_of last (field_in w32 8 bytes)) then wrong (at + 8) Value
+    else if not ((field_in w64 12 bytes == place) && nat_le (place + field_in w32 20 bytes) room) then wrong at Row
+    else Ok (row (field_in w64 0 bytes) (field_in w32 8 bytes) (field_in w64 12 bytes) (field_in w32 20 bytes))
 
 -- so many rows
 unfoldable pub rows_in : ℕ → ℕ → ℕ → ℕ → ℕ → List ℕ → Result (List SlabRow) Misread
 rows_in last room at place zero bytes = Ok []
 rows_in last room at place (suc count) bytes =
-    row_in last room at place bytes >>= λ r. rows_in last room (at + 24) (place + r.length) count (drop 24 bytes) >>= λ others. Ok (r ∷ others)
+    slab_row_in last room at place bytes >>= λ r. rows_in last room (at + 24) (place + r.length) count (drop 24 bytes) >>= λ others. Ok (r ∷ others)
 
 -- how many bytes their blocks take
 abbrev pub used : List SlabRow → ℕ
@@ -91,8 +91,8 @@ pub record Index : Type 0 where
 abbrev pub index : TimeUnit → List SlabRow → Index
 index unit rows = record { unit = unit; rows = rows }
 
-abbrev pub shown : SlabIndex → Index
-shown i = index i.unit i.rows.items
+abbrev pub index_shown : SlabIndex → Index
+index_shown i = index i.unit i.rows.items
 
 -- what the file of a window says, or its first fault
 unfoldable pub index_in : ℕ → List ℕ → Result Index Misread
@@ -106,32 +106,32 @@ index_in last bytes =
 abbrev pub block_of : List ℕ → SlabRow → List ℕ
 block_of bytes r = take r.length (drop (24 + r.place) bytes)
 
-abbrev pub entry_of : List ℕ → SlabRow → Entry
-entry_of bytes r = entry r.uid r.window (block_of bytes r)
+abbrev pub block_entry_of : List ℕ → SlabRow → BlockEntry
+block_entry_of bytes r = entry r.uid r.window (block_of bytes r)
 
-abbrev pub entries_of : List ℕ → List SlabRow → List Entry
-entries_of bytes rows = map (entry_of bytes) rows
+abbrev pub entries_of : List ℕ → List SlabRow → List BlockEntry
+entries_of bytes rows = map (block_entry_of bytes) rows
 
 -- the bytes of a row stand in the file
-abbrev pub IsInside : List ℕ → SlabRow → Type 0
-IsInside bytes r = 24 + (r.place + r.length) ≤ length bytes
+abbrev pub StandsInFile : List ℕ → SlabRow → Type 0
+StandsInFile bytes r = 24 + (r.place + r.length) ≤ length bytes
 
 -- the file of a window is the spelling of what its rows stand for
 pub record Spells (last : ℕ) (i : Index) (file : List ℕ) : Type 0 where
   pub limits : IsFile last (entries_of file i.rows)
-  pub bytes : file ≡ spelling i.unit (entries_of file i.rows)
-  pub rows : i.rows ≡ rows_of 0 (entries_of file i.rows)
+  pub bytes : file ≡ slab_spelling i.unit (entries_of file i.rows)
+  pub rows : i.rows ≡ slab_rows_of 0 (entries_of file i.rows)
 
 -- a file reads as these entries
-pub record ReadsAs (last : ℕ) (unit : TimeUnit) (es : List Entry) (file : List ℕ) : Type 0 where
-  pub read : index_in last file ≡ Ok (index unit (rows_of 0 es))
-  pub entries : entries_of file (rows_of 0 es) ≡ es
+pub record ReadsAsEntries (last : ℕ) (unit : TimeUnit) (es : List BlockEntry) (file : List ℕ) : Type 0 where
+  pub read : index_in last file ≡ Ok (index unit (slab_rows_of 0 es))
+  pub entries : entries_of file (slab_rows_of 0 es) ≡ es
 
 -- whatever blocks these bytes spell, in the file of this window, are read of them, unless memory is wanting
 abbrev pub ReadsBlocks : ℕ → List ℕ → Result SlabIndex FieldFault → Type 0
-ReadsBlocks window bytes result = (unit : TimeUnit) (entries : List Entry) → IsFile window entries → bytes ≡ spelling unit entries → Gives shown result (Ok (index unit (rows_of 0 entries)))
+ReadsBlocks window bytes result = (unit : TimeUnit) (entries : List BlockEntry) → IsFile window entries → bytes ≡ slab_spelling unit entries → GivesRead index_shown result (Ok (index unit (slab_rows_of 0 entries)))
 
 -- these bytes spell one list of blocks in one unit at most, in the file of this window
 abbrev pub HasOneValue : ℕ → List ℕ → Type 0
-HasOneValue window bytes = (unit second : TimeUnit) (entries others : List Entry) → IsFile window entries → IsFile window others
-    → bytes ≡ spelling unit entries → bytes ≡ spelling second others → (unit ≡ second) × (entries ≡ others)
+HasOneValue window bytes = (unit second : TimeUnit) (entries others : List BlockEntry) → IsFile window entries → IsFile window others
+    → bytes ≡ slab_spelling unit entries → bytes ≡ slab_spelling second others → (unit ≡ second) × (entries ≡ others)

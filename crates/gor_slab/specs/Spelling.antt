@@ -9,38 +9,38 @@ use Rattle.gor_model.specs.declared.unit.Unit.TheVariants.{Second, Milli}
 use Rattle.gor_slab.specs.declared.row.SlabRow.{SlabRow}
 
 -- whose block it is, its window, and its bytes, which are any bytes
-pub record Entry : Type 0 where
+pub record BlockEntry : Type 0 where
   pub uid : ℕ
   pub window : ℕ
   pub block : List ℕ
 
-abbrev pub entry : ℕ → ℕ → List ℕ → Entry
+abbrev pub entry : ℕ → ℕ → List ℕ → BlockEntry
 entry uid window block = record { uid = uid; window = window; block = block }
 
 -- the blocks of a file, end to end
-abbrev pub blocks : List Entry → List ℕ
+abbrev pub blocks : List BlockEntry → List ℕ
 blocks entries = flat_map (λ e. e.block) entries
 
 -- ---- limits
 
-pub record IsEntry (e : Entry) : Type 0 where
+pub record IsEntry (e : BlockEntry) : Type 0 where
   pub uid : IsNumber e.uid
   pub window : e.window ≤ last_window
   pub block : length e.block < 2 ^ 32
 
 -- the file of a window may hold blocks of windows before it
-abbrev pub IsWithin : ℕ → Entry → Type 0
-IsWithin last e = e.window ≤ last
+abbrev pub IsUpToWindow : ℕ → BlockEntry → Type 0
+IsUpToWindow last e = e.window ≤ last
 
-pub record IsEntryOf (last : ℕ) (e : Entry) : Type 0 where
+pub record IsEntryOf (last : ℕ) (e : BlockEntry) : Type 0 where
   pub entry : IsEntry e
-  pub within : IsWithin last e
+  pub within : IsUpToWindow last e
 
 -- neither the slabs nor the rows of a file take more bytes
 abbrev pub greatest_part : ℕ
 greatest_part = 2 ^ 62
 
-pub record IsFile (last : ℕ) (es : List Entry) : Type 0 where
+pub record IsFile (last : ℕ) (es : List BlockEntry) : Type 0 where
   pub entries : AllByRecursion (IsEntryOf last) es
   pub room : length (blocks es) ≤ greatest_part
   pub rows : length es * 24 ≤ greatest_part
@@ -77,10 +77,10 @@ abbrev pub row_bytes : SlabRow → List ℕ
 row_bytes r = to_be_bytes w64 r.uid ++ (to_be_bytes w32 r.window ++ (to_be_bytes w64 r.place ++ to_be_bytes w32 r.length))
 
 -- a row for each entry, whose blocks stand end to end from a place on
-abbrev pub rows_of : ℕ → List Entry → List SlabRow
-rows_of place [] = []
-rows_of place (e ∷ others) = row e.uid e.window place (length e.block) ∷ rows_of (place + length e.block) others
+abbrev pub slab_rows_of : ℕ → List BlockEntry → List SlabRow
+slab_rows_of place [] = []
+slab_rows_of place (e ∷ others) = row e.uid e.window place (length e.block) ∷ slab_rows_of (place + length e.block) others
 
-abbrev pub spelling : TimeUnit → List Entry → List ℕ
-spelling unit entries =
-    header (version unit) (slabs_for (length (blocks entries))) (length entries) ++ (blocks entries ++ (replicate (rest_of_slab (length (blocks entries))) 0 ++ flat_map row_bytes (rows_of 0 entries)))
+abbrev pub slab_spelling : TimeUnit → List BlockEntry → List ℕ
+slab_spelling unit entries =
+    header (version unit) (slabs_for (length (blocks entries))) (length entries) ++ (blocks entries ++ (replicate (rest_of_slab (length (blocks entries))) 0 ++ flat_map row_bytes (slab_rows_of 0 entries)))

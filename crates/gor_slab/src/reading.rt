@@ -2,9 +2,9 @@
 ghost use Rattle.std.specs.Prelude.{◌≡◌, ◌+◌, ◌-◌, ◌*◌, ◌^◌, ◌<◌, ◌≤◌, List, length, drop, Ok, IfOk, OnOk, All};
 ghost use Rattle.gor_model.specs.declared.unit.Unit.{Unit as TimeUnit};
 ghost use Rattle.gor_fields.specs.declared.field_fault.FieldFault.TheVariants as faults;
-ghost use Rattle.gor_fields.specs.Readings.{Gives};
-ghost use Rattle.gor_slab.specs.Spelling.{Entry, IsFile, greatest_part, rows_of, spelling};
-ghost use Rattle.gor_slab.specs.Reading.{index, unit_in, sizes_in, is_window_of, row_in, rows_in, used, zeros_in, padding_in, index_in, shown, block_of, IsInside, Spells, ReadsBlocks, HasOneValue};
+ghost use Rattle.gor_fields.specs.Readings.{GivesRead};
+ghost use Rattle.gor_slab.specs.Spelling.{BlockEntry, IsFile, greatest_part, slab_rows_of, slab_spelling};
+ghost use Rattle.gor_slab.specs.Reading.{index, unit_in, sizes_in, is_window_of, slab_row_in, rows_in, used, zeros_in, padding_in, index_in, index_shown, block_of, StandsInFile, Spells, ReadsBlocks, HasOneValue};
 
 use crate::SlabFault;
 use crate::row::{
@@ -25,7 +25,7 @@ fn fault(at: usize, kind: Wrong) -> SlabFault
 /// The unit that the header of a file says.
 #[tactic(auto, unfolding(crate::specs::Reading::unit_in))]
 fn unit_of(bytes: &[u8]) -> Result<Unit, SlabFault>
-    ensures read { Gives (λ x. x) result (unit_in bytes.now) }
+    ensures read { GivesRead (λ x. x) result (unit_in bytes.now) }
     ensures long { OnOk result (24 ≤ length bytes.now) }
 {
     if bytes.len() < HEADER_LEN {
@@ -45,7 +45,7 @@ fn unit_of(bytes: &[u8]) -> Result<Unit, SlabFault>
 #[tactic(auto, unfolding(crate::specs::Reading::sizes_in))]
 fn sizes_of(bytes: &[u8]) -> Result<Sizes, SlabFault>
     requires { 24 ≤ length bytes.now }
-    ensures read { Gives (λ x. x) result (sizes_in bytes.now) }
+    ensures read { GivesRead (λ x. x) result (sizes_in bytes.now) }
     ensures end { IfOk result (λ sizes. 24 + (sizes.room + sizes.rows * 24) ≡ length bytes.now) }
     ensures room { IfOk result (λ sizes. sizes.room ≤ greatest_part) }
 {
@@ -75,7 +75,7 @@ fn is_window_of(last: u32, window: u32) -> bool
 }
 
 /// The row that stands at a place, where the blocks of the rows before it end at `place`.
-#[tactic(auto, unfolding(crate::specs::Reading::row_in))]
+#[tactic(auto, unfolding(crate::specs::Reading::slab_row_in))]
 fn row_of(
     last: u32,
     room: usize,
@@ -86,7 +86,7 @@ fn row_of(
     requires long { 24 ≤ length bytes.now }
     requires at { at + length bytes.now < 2 ^ 64 }
     requires place { place ≤ room }
-    ensures read { Gives (λ x. x) result (row_in last room at place bytes.now) }
+    ensures read { GivesRead (λ x. x) result (slab_row_in last room at place bytes.now) }
     ensures fits { IfOk result (λ row. place + row.length ≤ room) }
 {
     let row = SlabRow {
@@ -109,7 +109,7 @@ fn row_of(
 
 fn rows_of(alloc: Global, last: u32, sizes: Sizes, bytes: &[u8]) -> Result<Rows, SlabFault>
     requires { 24 + (sizes.room + sizes.rows * 24) ≡ length bytes.now }
-    ensures read { Gives (λ x. x.rows.items) result (rows_in last sizes.room (24 + sizes.room) 0 sizes.rows (drop (24 + sizes.room) bytes.now)) }
+    ensures read { GivesRead (λ x. x.rows.items) result (rows_in last sizes.room (24 + sizes.room) 0 sizes.rows (drop (24 + sizes.room) bytes.now)) }
     ensures used { IfOk result (λ x. x.used ≡ used x.rows.items) }
     ensures fits { IfOk result (λ x. x.used ≤ sizes.room) }
 {
@@ -127,7 +127,7 @@ fn rows_of(alloc: Global, last: u32, sizes: Sizes, bytes: &[u8]) -> Result<Rows,
 
 fn zeros_of(at: usize, bytes: &[u8]) -> Result<(), SlabFault>
     requires { at + length bytes.now < 2 ^ 64 }
-    ensures { Gives (λ x. x) result (zeros_in at bytes.now) }
+    ensures { GivesRead (λ x. x) result (zeros_in at bytes.now) }
 {
     for (index, byte) in bytes.iter().enumerate() {
         if *byte != 0 {
@@ -142,7 +142,7 @@ fn padding_of(room: usize, used: usize, bytes: &[u8]) -> Result<(), SlabFault>
     requires used { used ≤ room }
     requires room { room ≤ greatest_part }
     requires long { 24 + room ≤ length bytes.now }
-    ensures { Gives (λ x. x) result (padding_in room used bytes.now) }
+    ensures { GivesRead (λ x. x) result (padding_in room used bytes.now) }
 {
     if room != used.div_ceil(SLAB_LEN) * SLAB_LEN {
         return Err(fault(8, Wrong::Padding));
@@ -154,7 +154,7 @@ fn padding_of(room: usize, used: usize, bytes: &[u8]) -> Result<(), SlabFault>
 
 #[tactic(auto, unfolding(crate::specs::Reading::index_in))]
 fn index_of(alloc: Global, bytes: &[u8], last: u32) -> Result<SlabIndex, SlabFault>
-    ensures { Gives shown result (index_in last bytes.now) }
+    ensures { GivesRead index_shown result (index_in last bytes.now) }
 {
     let unit = unit_of(bytes)?;
     let sizes = sizes_of(bytes)?;
@@ -172,15 +172,15 @@ fn index_of(alloc: Global, bytes: &[u8], last: u32) -> Result<SlabIndex, SlabFau
 /// there are no more slabs than the blocks need and that the rest of the last one is zero.
 pub fn read_index(alloc: Global, bytes: &[u8], window: u32) -> Result<SlabIndex, SlabFault>
     // What is read is spelled so.
-    ensures found { IfOk result (λ file. Spells window (shown file) bytes.now) }
+    ensures found { IfOk result (λ file. Spells window (index_shown file) bytes.now) }
     // What is spelled so is read, unless memory is wanting.
     ensures only { ReadsBlocks window bytes.now result }
     // No file has two values.
     ensures one { HasOneValue window bytes.now }
     // The bytes of each row stand in the file.
-    ensures inside { IfOk result (λ file. All (IsInside bytes.now) file.rows.items) }
+    ensures inside { IfOk result (λ file. All (StandsInFile bytes.now) file.rows.items) }
     // Which fault it is.
-    ensures exact { Gives shown result (index_in window bytes.now) }
+    ensures exact { GivesRead index_shown result (index_in window bytes.now) }
 {
     index_of(alloc, bytes, window)
 }
@@ -188,7 +188,7 @@ pub fn read_index(alloc: Global, bytes: &[u8], window: u32) -> Result<SlabIndex,
 /// The bytes of a row: its block.
 pub fn block_at<'a>(bytes: &'a [u8], row: &SlabRow) -> &'a [u8]
     // The row is of the index of these bytes.
-    requires { IsInside bytes.now row.now }
+    requires { StandsInFile bytes.now row.now }
     ensures { result.now ≡ block_of bytes.now row.now }
 {
     let (_, rest) = bytes.split_at(HEADER_LEN + row.place as usize);

@@ -5,7 +5,7 @@ ghost use Rattle.std.specs.List.{flat_map};
 ghost use Rattle.gor_model.specs.Fields.{IsNumber};
 ghost use Rattle.gor_model.specs.Windows.{last_window};
 ghost use Rattle.gor_model.specs.declared.unit.Unit.{Unit as TimeUnit};
-ghost use Rattle.gor_slab.specs.Spelling.{Entry, entry, magic, version, header, row_bytes, spelling};
+ghost use Rattle.gor_slab.specs.Spelling.{BlockEntry, entry, magic, version, header, row_bytes, slab_spelling};
 ghost use Rattle.gor_slab.specs.Writing.{Wrote, AddsEntry, ReadsAdded};
 
 use crate::row::{GREATEST_PART, GREATEST_ROWS, HEADER_LEN, ROW_LEN, SLAB_LEN, SlabRow};
@@ -46,7 +46,7 @@ impl SlabWriter {
         requires window { window ≤ last_window }
         requires block { length block.now < 2 ^ 32 }
         ensures added { AddsEntry (entry uid window block.now) result self.old self.new }
-        ensures kept { (unit : TimeUnit) (entries : List Entry) → Wrote self.old unit entries → OnErr result (Wrote self.new unit entries) }
+        ensures kept { (unit : TimeUnit) (entries : List BlockEntry) → Wrote self.old unit entries → OnErr result (Wrote self.new unit entries) }
     {
         make_room(&mut self.bytes)?;
         let row = SlabRow {
@@ -65,11 +65,11 @@ impl SlabWriter {
     /// than 2^62 bytes of blocks count as one, and the writer then holds what it held.
     pub fn finish(&mut self) -> Result<Vec<u8>, AllocError>
         // The file is the one spelling of what was added.
-        ensures file { (unit : TimeUnit) (entries : List Entry) → Wrote self.old unit entries → IfOk result (λ file. file.items ≡ spelling unit entries) }
+        ensures file { (unit : TimeUnit) (entries : List BlockEntry) → Wrote self.old unit entries → IfOk result (λ file. file.items ≡ slab_spelling unit entries) }
         // It reads as what was added, in the file of any window that is not below those of the blocks.
         ensures read { ReadsAdded self.old result }
-        ensures emptied { (unit : TimeUnit) (entries : List Entry) → Wrote self.old unit entries → OnOk result (Wrote self.new unit []) }
-        ensures kept { (unit : TimeUnit) (entries : List Entry) → Wrote self.old unit entries → OnErr result (Wrote self.new unit entries) }
+        ensures emptied { (unit : TimeUnit) (entries : List BlockEntry) → Wrote self.old unit entries → OnOk result (Wrote self.new unit []) }
+        ensures kept { (unit : TimeUnit) (entries : List BlockEntry) → Wrote self.old unit entries → OnErr result (Wrote self.new unit entries) }
     {
         let used = self.bytes.len().saturating_sub(HEADER_LEN);
         let count = self.rows.len();

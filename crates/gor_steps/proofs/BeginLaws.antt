@@ -18,7 +18,7 @@ use Rattle.gor_model.specs.Changes.{History, changed, changes}
 use Rattle.gor_model.specs.Names.{key_of}
 use Rattle.gor_model.specs.Objects.{Has, number_of, share_of}
 use Rattle.gor_model.specs.PlainMap.{greatest, raised, row_after, shard_floor, slots_after}
-use Rattle.gor_model.specs.Shares.{Entry, DirectoryShare, JournalShare, Directory, Journal, Besides, Begins, OfSeries, Nothing, Buffered, begins, directory_share, series_share, journal_share, series_touched}
+use Rattle.gor_model.specs.Shares.{DirectoryEntry, DirectoryShare, JournalShare, Directory, Journal, Besides, Begins, OfSeries, Nothing, Buffered, begins, directory_share, series_share, journal_share, series_touched}
 use Rattle.gor_model.specs.SharesAfter.{begun, directory_begun, journal_with}
 use Rattle.gor_model.specs.Starts.{IsFloor, IsStart}
 use Rattle.gor_model.specs.Windows.{window_end}
@@ -26,14 +26,14 @@ use Rattle.gor_model.proofs.EventLaws.{begun_by, begin_answered, begin_touched, 
 use Rattle.gor_model.proofs.NumberedLaws.{directory_at, journal_at, put_leaves, begin_series, begin_journal, free_below}
 use Rattle.gor_model.proofs.ObjectLaws.{slots}
 use Rattle.gor_model.proofs.SlotLaws.{AreVacant}
-use Rattle.gor_keys.specs.Spelling as spelled
+use Rattle.gor_keys.specs.Spelling.{IsFloorInUnit}
 use Rattle.gor_rule.specs.declared.view.View.{View}
 use Rattle.gor_hall.specs.Steps.{HasMarked}
 use Rattle.gor_cell.specs.Packed.{Packed}
-use Rattle.gor_cell.specs.Stands as cells
-use Rattle.gor_dir.specs.Listings.{Listing, shown}
-use Rattle.gor_journal.specs.Bodies.{Kept}
-use Rattle.gor_journal.specs.Stands as journals
+use Rattle.gor_cell.specs.Stands.{CellStands}
+use Rattle.gor_dir.specs.Listings.{Listing, directory_shown}
+use Rattle.gor_journal.specs.Bodies.{KeptJournal}
+use Rattle.gor_journal.specs.Stands.{PendingStands}
 use Rattle.gor_steps.specs.declared.held.Held.{Held}
 use Rattle.gor_steps.specs.declared.puts.NewPoint.{NewPoint}
 use Rattle.gor_steps.specs.declared.puts.PutAnswer.{PutAnswer}
@@ -46,7 +46,7 @@ use Rattle.gor_steps.proofs.DelLaws.{held_all}
 use Rattle.gor_steps.proofs.ReadLaws.{MayBe}
 use Rattle.gor_steps.proofs.ViewLaws.{marked_start, directory_after, series_after, journal_after, no_share}
 
-pub entry_none : (e : Option Entry) → option_map (λ (x : Entry). x.slot) e ≡ None → e ≡ None
+pub entry_none : (e : Option DirectoryEntry) → option_map (λ (x : DirectoryEntry). x.slot) e ≡ None → e ≡ None
 entry_none None is = refl
 entry_none (Some e) is = absurd (let wrong : Some e.slot ≡ None = is in cc)
 
@@ -70,12 +70,12 @@ floor_is : (start : Start) → IsStart start → (h : History) → Legal start h
 floor_is start sound [] legal = sound.floor
 floor_is start sound (e ∷ h) legal = floor_raised start h (changes h) e.call e.reply legal.1.may (floor_is start sound h legal.0)
 
-spelled_floor : (f : ℕ) → IsFloor f → spelled.IsFloor Second f
+spelled_floor : (f : ℕ) → IsFloor f → IsFloorInUnit Second f
 spelled_floor f (inl none) = record { whole = ap (λ (n : ℕ). n % 7200) none; last = omega (arith, none) }
 spelled_floor f (inr end) = record { whole = (let is : f ≡ (end.0 + 1) * 7200 + 0 = (let e = end.2 in omega arith) in ap (λ (n : ℕ). n % 7200) is ∙ mod-mul-add (end.0 + 1) 7200 0 (omega arith)); last = (let low = end.1 in let is = end.2 in omega arith) }
 
-pub floor_spelled : (v : View) → IsSound v → (i : Listing) → HasDirectory v i → spelled.IsFloor Second (shown i).floor
-floor_spelled v sound i stands = subst (spelled.IsFloor Second) (sym (ap (λ (d : DirectoryShare). d.floor) stands)) (spelled_floor (shard_floor v.start (changes v.at)) (floor_is v.start sound.start v.at sound.legal))
+pub floor_spelled : (v : View) → IsSound v → (i : Listing) → HasDirectory v i → IsFloorInUnit Second (directory_shown i).floor
+floor_spelled v sound i stands = subst (IsFloorInUnit Second) (sym (ap (λ (d : DirectoryShare). d.floor) stands)) (spelled_floor (shard_floor v.start (changes v.at)) (floor_is v.start sound.start v.at sound.legal))
 
 -- ---- a free slot has no series
 
@@ -83,18 +83,18 @@ first_vacant : (holder : ℕ → Option (List ℕ)) (free : List ℕ) (slot : �
 first_vacant holder [] slot is vacant = absurd (let wrong : None ≡ Some slot = is in cc)
 first_vacant holder (s ∷ free) slot is vacant = let same : Some s ≡ Some slot = is in let own : s ≡ slot = cc in subst (λ n. holder n ≡ None) own vacant.0
 
-module _ (v : View) (sound : IsSound v) (i : Listing) (index : HasDirectory v i) (slot : ℕ) (free : slice_get (shown i).free 0 ≡ Some slot) where
+module _ (v : View) (sound : IsSound v) (i : Listing) (index : HasDirectory v i) (slot : ℕ) (free : slice_get (directory_shown i).free 0 ≡ Some slot) where
   first : slice_get (directory_share v.start v.at).free 0 ≡ Some slot
   first = subst (λ (d : DirectoryShare). slice_get d.free 0 ≡ Some slot) index free
 
   pub free_low : slot < v.start.slots
   free_low = free_below v.start sound.start v.at sound.legal (directory_share v.start v.at) slot (directory_at v.start v.at) first
 
-  pub free_vacant : (live : Option Packed) → cells.Stands live (series_share v.start v.at slot) → live ≡ None
+  pub free_vacant : (live : Option Packed) → CellStands live (series_share v.start v.at slot) → live ≡ None
   free_vacant live stands =
       let empty = first_vacant (slots_after v.start (changes v.at)).holder (directory_share v.start v.at).free slot first (slots v.start sound.start v.at sound.legal).vacant in
       let none : series_share v.start v.at slot ≡ None = rw empty refl in
-      no_share live (subst (cells.Stands live) none stands)
+      no_share live (subst (CellStands live) none stands)
 
 -- ---- the event
 
@@ -112,7 +112,7 @@ module _ (v : View) (sound : IsSound v) (lane : ℕ) (p : NewPoint) (may : MayPu
   log = journal_share v.start v.at
 
   none : d.entry key ≡ None
-  none = entry_none (d.entry key) (sym (ap (λ (s : DirectoryShare). option_map (λ (x : Entry). x.slot) (s.entry key)) index) ∙ absent)
+  none = entry_none (d.entry key) (sym (ap (λ (s : DirectoryShare). option_map (λ (x : DirectoryEntry). x.slot) (s.entry key)) index) ∙ absent)
 
   -- with the answer a, and the slot that it begins
   module _ (a : PutAnswer) (slot : Option ℕ) (told : put_absent_by v.start.slots d log p.time ≡ put_reply a) (begins : begun_by d.free (put_reply a) ≡ slot) where
@@ -147,11 +147,11 @@ module _ (v : View) (sound : IsSound v) (lane : ℕ) (p : NewPoint) (may : MayPu
 
   -- ---- the answers
 
-  pub told_stopped : (j : Kept) → HasJournal v j → j.pending.stopped ≡ true → put_absent_by v.start.slots d log p.time ≡ reply.Stopped
+  pub told_stopped : (j : KeptJournal) → HasJournal v j → j.pending.stopped ≡ true → put_absent_by v.start.slots d log p.time ≡ reply.Stopped
   told_stopped j logged is = let stopped : log.stopped ≡ true = sym logged.stopped ∙ is in rw stopped refl
 
   -- one that no floor closes and that finds a slot is stored
-  module _ (j : Kept) (logged : HasJournal v j) (runs : j.pending.stopped ≡ false) (slot : ℕ) (free : slice_get (shown i).free 0 ≡ Some slot) (reached : (shown i).floor ≤ p.time) where
+  module _ (j : KeptJournal) (logged : HasJournal v j) (runs : j.pending.stopped ≡ false) (slot : ℕ) (free : slice_get (directory_shown i).free 0 ≡ Some slot) (reached : (directory_shown i).floor ≤ p.time) where
     some_free : (xs : List ℕ) → slice_get xs 0 ≡ Some slot → nat_le 1 (length xs) ≡ true
     some_free [] is = absurd (let wrong : None ≡ Some slot = is in cc)
     some_free (x ∷ xs) is = le-leb 1 (length (x ∷ xs)) (omega arith)
@@ -164,14 +164,14 @@ module _ (v : View) (sound : IsSound v) (lane : ℕ) (p : NewPoint) (may : MayPu
         rw (running, late, room) (ap (λ (b : Bool). reply.Stored b) is_due)
 
     -- the three stand for their shares after it
-    pub begun_all : (w : View) (n : ℕ) (due : Bool) (old new : Held) → HasMarked v (put_event lane (Some slot) p (answer.Stored due)) n w → HasAll v slot old → shown old.directory ≡ shown i → old.journal.pending ≡ j.pending → BeginsIn p slot old new → HasAll w slot new
+    pub begun_all : (w : View) (n : ℕ) (due : Bool) (old new : Held) → HasMarked v (put_event lane (Some slot) p (answer.Stored due)) n w → HasAll v slot old → directory_shown old.directory ≡ directory_shown i → old.journal.pending ≡ j.pending → BeginsIn p slot old new → HasAll w slot new
     begun_all w n due old new m stands same_index same_log begins =
         let e = put_event lane (Some slot) p (answer.Stored due) in
         let has = held_all v slot old stands in
         let first : slice_get d.free 0 ≡ Some slot = subst (λ (s : DirectoryShare). slice_get s.free 0 ≡ Some slot) index free in
         let late : d.floor ≤ p.time = subst (λ (s : DirectoryShare). s.floor ≤ p.time) index reached in
         let next : log.next ≡ old.journal.pending.next = sym (stands.journal.next) in
-        let floor : d.floor ≡ (shown old.directory).floor = sym (ap (λ (s : DirectoryShare). s.floor) stands.directory) in
+        let floor : d.floor ≡ (directory_shown old.directory).floor = sym (ap (λ (s : DirectoryShare). s.floor) stands.directory) in
         let directory : directory_share w.start w.at ≡ directory_begun name key log.next d = directory_after v w e n m (has 1 (inr (inl refl))) (directory_begun name key log.next d)
         (begin_directory v.start sound.start v.at sound.legal lane name key p.time p.word d log may none (directory_at v.start v.at) (journal_at v.start v.at) (Some slot) due) in
         let series : series_share w.start w.at slot ≡ Some (record { key = key; row = begun name slot log.next d.floor (record { time = p.time; word = p.word }) }) =
@@ -183,8 +183,8 @@ module _ (v : View) (sound : IsSound v) (lane : ℕ) (p : NewPoint) (may : MayPu
           held = ap (λ (z : View). z.held) m.2 ∙ (stands.held ∙ ap (λ (z : Start). (z.slots + 2) ∷ (slot + 2) ∷ 1 ∷ []) (sym (marked_start v w e n m)));
           low = subst (λ (z : Start). slot < z.slots) (sym (marked_start v w e n m)) stands.low;
           directory = begins.directory log.next next ∙ (ap (directory_begun name key log.next) stands.directory ∙ sym directory);
-          series = subst (cells.Stands new.cell.live) (sym series) (begins.cell d.floor log.next floor next);
-          journal = subst (journals.Stands new.journal.pending) (sym journal) (begins.journal d.floor log floor stands.journal);
+          series = subst (CellStands new.cell.live) (sym series) (begins.cell d.floor log.next floor next);
+          journal = subst (PendingStands new.journal.pending) (sym journal) (begins.journal d.floor log floor stands.journal);
         }
 
 -- ---- the key was absent before the event
@@ -214,13 +214,13 @@ unfolding first_besides
 begun_absent start h lane slot p due uid s floor log is =
     begins_none (row_after start (changes h) (key_of p.name.now)) (row_after start (put_change p ∷ changes h) (key_of p.name.now)) uid s floor (ap (λ (j : JournalShare). first_besides j.buffered) is)
 
-module _ (v : View) (sound : IsSound v) (lane : ℕ) (p : NewPoint) (i : Listing) (index : HasDirectory v i) (absent : slot_of i (key_of p.name.now) ≡ None) (slot : ℕ) (free : slice_get (shown i).free 0 ≡ Some slot) where
+module _ (v : View) (sound : IsSound v) (lane : ℕ) (p : NewPoint) (i : Listing) (index : HasDirectory v i) (absent : slot_of i (key_of p.name.now) ≡ None) (slot : ℕ) (free : slice_get (directory_shown i).free 0 ≡ Some slot) where
   pub stored_absent : (w : View) (n : ℕ) (due : Bool) → Has v.held (v.start.slots + 2) → HasMarked v (put_event lane (Some slot) p (answer.Stored due)) n w → IsAbsentBefore (key_of p.name.now) w
   stored_absent w n due has m =
       let e = put_event lane (Some slot) p (answer.Stored due) in
       let d = directory_share v.start v.at in
       let log = journal_share v.start v.at in
-      let none : d.entry (key_of p.name.now) ≡ None = entry_none (d.entry (key_of p.name.now)) (sym (ap (λ (s : DirectoryShare). option_map (λ (x : Entry). x.slot) (s.entry (key_of p.name.now))) index) ∙ absent) in
+      let none : d.entry (key_of p.name.now) ≡ None = entry_none (d.entry (key_of p.name.now)) (sym (ap (λ (s : DirectoryShare). option_map (λ (x : DirectoryEntry). x.slot) (s.entry (key_of p.name.now))) index) ∙ absent) in
       let first : slice_get d.free 0 ≡ Some slot = subst (λ (s : DirectoryShare). slice_get s.free 0 ≡ Some slot) index free in
       let journal : journal_share w.start w.at ≡ journal_with (put_change p) (Begins log.next slot d.floor) log = journal_after v w e n m has (journal_with (put_change p) (Begins log.next slot d.floor) log)
       (begin_journal v.start sound.start v.at sound.legal lane (Some slot) slot p.name.now (key_of p.name.now) p.time p.word due d log none first (directory_at v.start v.at) (journal_at v.start v.at)) in

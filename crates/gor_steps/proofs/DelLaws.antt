@@ -8,17 +8,17 @@ use Rattle.gor_model.specs.declared.start.Start.{Start}
 use Rattle.gor_model.specs.Answers.{IsAnswered}
 use Rattle.gor_model.specs.AnswersByShares.{del_by, unless_by}
 use Rattle.gor_model.specs.Objects.{Has, number_of, share_of}
-use Rattle.gor_model.specs.Shares.{Entry, DirectoryShare, JournalShare, Directory, Journal, Frees, directory_share, journal_share, series_share, series_touched}
+use Rattle.gor_model.specs.Shares.{DirectoryEntry, DirectoryShare, JournalShare, Directory, Journal, Frees, directory_share, journal_share, series_share, series_touched}
 use Rattle.gor_model.specs.SharesAfter.{directory_without, journal_with}
 use Rattle.gor_model.proofs.EventLaws.{row_share, del_answered}
 use Rattle.gor_model.proofs.NumberedLaws.{directory_at, journal_at, QuietDel, del_leaves, del_series, del_directory, del_journal, del_touched}
 use Rattle.gor_rule.specs.declared.view.View.{View}
 use Rattle.gor_hall.specs.Steps.{HasMarked}
-use Rattle.gor_cell.specs.Stands as cell
+use Rattle.gor_cell.specs.Stands.{CellStands}
 use Rattle.gor_cell.specs.Packed.{Packed}
 use Rattle.gor_dir.specs.Listings.{Listing}
-use Rattle.gor_journal.specs.Bodies.{Kept}
-use Rattle.gor_journal.specs.Stands as log
+use Rattle.gor_journal.specs.Bodies.{KeptJournal}
+use Rattle.gor_journal.specs.Stands.{PendingStands}
 use Rattle.gor_steps.specs.declared.dels.DelAnswer.{DelAnswer}
 use Rattle.gor_steps.specs.declared.dels.DelAnswer.TheVariants as answer
 use Rattle.gor_steps.specs.declared.held.Held.{Held}
@@ -30,23 +30,23 @@ use Rattle.gor_steps.proofs.FindLaws.{found_row}
 use Rattle.gor_steps.proofs.ReadLaws.{MayBe}
 use Rattle.gor_steps.proofs.ViewLaws.{row_here, marked_start, directory_after, series_after, journal_after}
 
-entry_some : (e : Option Entry) (s : ℕ) → option_map (λ (x : Entry). x.slot) e ≡ Some s → is_some e ≡ true
+entry_some : (e : Option DirectoryEntry) (s : ℕ) → option_map (λ (x : DirectoryEntry). x.slot) e ≡ Some s → is_some e ≡ true
 entry_some None s is = absurd (let wrong : None ≡ Some s = is in cc)
 entry_some (Some e) s is = refl
 
-entry_none : (e : Option Entry) → option_map (λ (x : Entry). x.slot) e ≡ None → is_some e ≡ false
+entry_none : (e : Option DirectoryEntry) → option_map (λ (x : DirectoryEntry). x.slot) e ≡ None → is_some e ≡ false
 entry_none None is = refl
 entry_none (Some e) is = absurd (let wrong : Some e.slot ≡ None = is in cc)
 
-module _ (v : View) (sound : IsSound v) (lane : ℕ) (key : List ℕ) (i : Listing) (j : Kept) (index : HasDirectory v i) (logged : HasJournal v j) where
+module _ (v : View) (sound : IsSound v) (lane : ℕ) (key : List ℕ) (i : Listing) (j : KeptJournal) (index : HasDirectory v i) (logged : HasJournal v j) where
   abbrev d : DirectoryShare
   d = directory_share v.start v.at
 
   abbrev share : JournalShare
   share = journal_share v.start v.at
 
-  slot_by : option_map (λ (x : Entry). x.slot) (d.entry key) ≡ slot_of i key
-  slot_by = sym (ap (λ (s : DirectoryShare). option_map (λ (x : Entry). x.slot) (s.entry key)) index)
+  slot_by : option_map (λ (x : DirectoryEntry). x.slot) (d.entry key) ≡ slot_of i key
+  slot_by = sym (ap (λ (s : DirectoryShare). option_map (λ (x : DirectoryEntry). x.slot) (s.entry key)) index)
 
   -- ---- the answer
 
@@ -81,7 +81,7 @@ module _ (v : View) (sound : IsSound v) (lane : ℕ) (key : List ℕ) (i : Listi
         (del_touched v.start sound.start v.at sound.legal lane slot key (del_reply a) d (directory_at v.start v.at) o t))),
     subst (IsAnswered v.start v.at) same (del_answered v.start sound.start v.at sound.legal lane key d share (directory_at v.start v.at) (journal_at v.start v.at)),
   ) where
-    same : record { lane = lane; slot = option_map (λ (e : Entry). e.slot) (d.entry key); call = call.Del key; reply = del_by d share key } ≡ del_event lane slot key a
+    same : record { lane = lane; slot = option_map (λ (e : DirectoryEntry). e.slot) (d.entry key); call = call.Del key; reply = del_by d share key } ≡ del_event lane slot key a
     same = λ i. record { lane = lane; slot = (slot_by ∙ found) i; call = call.Del key; reply = told i }
 
   pub del_quiet : (slot : Option ℕ) (a : DelAnswer) → QuietDel (del_reply a) → (o : ℕ) → share_of v.start o (del_event lane slot key a ∷ v.at) ≡ share_of v.start o v.at
@@ -116,6 +116,6 @@ ended_all v w sound lane slot n key old new stands there ends m =
       held = ap (λ (z : View). z.held) m.2 ∙ (stands.held ∙ ap (λ (z : Start). (z.slots + 2) ∷ (slot + 2) ∷ 1 ∷ []) (sym (marked_start v w e n m)));
       low = subst (λ (z : Start). slot < z.slots) (sym (marked_start v w e n m)) stands.low;
       directory = ends.directory ∙ (ap (directory_without key slot) stands.directory ∙ sym directory);
-      series = subst (λ (x : Option Packed). cell.Stands x (series_share w.start w.at slot)) (sym ends.cell) (subst (cell.Stands None) (sym series) tt);
-      journal = subst (log.Stands new.journal.pending) (sym journal) (ends.journal j stands.journal);
+      series = subst (λ (x : Option Packed). CellStands x (series_share w.start w.at slot)) (sym ends.cell) (subst (CellStands None) (sym series) tt);
+      journal = subst (PendingStands new.journal.pending) (sym journal) (ends.journal j stands.journal);
     }

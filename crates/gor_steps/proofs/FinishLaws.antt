@@ -20,12 +20,12 @@ use Rattle.gor_model.proofs.NumberedLaws.{device_at, directory_at, journal_at, f
 use Rattle.gor_rule.specs.declared.view.View.{View}
 use Rattle.gor_rule.specs.Plays.{gave}
 use Rattle.gor_hall.specs.Steps.{HasMarked}
-use Rattle.gor_dir.specs.Listings.{shown}
-use Rattle.gor_journal.specs.Stands as log
+use Rattle.gor_dir.specs.Listings.{directory_shown}
+use Rattle.gor_journal.specs.Stands.{PendingStands}
 use Rattle.gor_steps.specs.declared.wide.Wide.{Wide}
 use Rattle.gor_steps.specs.declared.floors.FloorAnswer.{FloorAnswer}
 use Rattle.gor_steps.specs.declared.floors.FloorAnswer.TheVariants as answer
-use Rattle.gor_steps.specs.Finishes.{HasWide, KeepsDevice, FloorTold, FloorsDevice, IsQuietFloor, device_of, floor_reply, floor_event}
+use Rattle.gor_steps.specs.Finishes.{HasWide, KeepsDevice, FloorTold, FloorsDevice, IsQuietFloor, device_share_seen, floor_reply, floor_event}
 use Rattle.gor_steps.specs.Views.{IsSound}
 use Rattle.gor_steps.proofs.ReadLaws.{MayBe}
 use Rattle.gor_steps.proofs.ViewLaws.{marked_start, marked_share, directory_after, journal_after, directory_on, journal_on}
@@ -35,11 +35,11 @@ use Rattle.gor_steps.proofs.ViewLaws.{marked_start, marked_share, directory_afte
 pub device_stays : (v w : View) → w.start ≡ v.start → share_of w.start 0 w.at ≡ share_of v.start 0 v.at → KeepsDevice v w
 device_stays v w start same = same_device _ _ (sym (device_at w.start w.at) ∙ (same ∙ device_at v.start v.at))
 
-pub device_after : (v w : View) (e : Event) (n : ℕ) → HasMarked v e n w → Has v.held 0 → (d : DeviceShare) → share_of v.start 0 (e ∷ v.at) ≡ OfDevice d → device_of w ≡ d
+pub device_after : (v w : View) (e : Event) (n : ℕ) → HasMarked v e n w → Has v.held 0 → (d : DeviceShare) → share_of v.start 0 (e ∷ v.at) ≡ OfDevice d → device_share_seen w ≡ d
 device_after v w e n m has d after = same_device _ _ (sym (device_at w.start w.at) ∙ marked_share v w e n m 0 has (OfDevice d) after)
 
 pub device_gave : (w x : View) (a b : ℕ) → x ≡ gave (gave w a) b → KeepsDevice w x
-device_gave w x a b is = ap (λ (z : View). device_of z) is
+device_gave w x a b is = ap (λ (z : View). device_share_seen z) is
 
 -- ---- the Floor
 
@@ -68,29 +68,29 @@ module _ (v : View) (sound : IsSound v) (lane window : ℕ) (wide : Wide) (stand
   stopped_is : journal.stopped ≡ wide.journal.pending.stopped
   stopped_is = sym stands.journal.stopped
 
-  floor_is : (device_of v).floor ≡ (shown wide.directory).floor
+  floor_is : (device_share_seen v).floor ≡ (directory_shown wide.directory).floor
   floor_is = sym (ap (λ (d : DirectoryShare). d.floor) stands.directory)
 
   -- what is answered is the answer by the shares
-  by_told : (b : FloorAnswer) → FloorTold window wide b → floor_by (device_of v) journal window ≡ floor_reply b
+  by_told : (b : FloorAnswer) → FloorTold window wide b → floor_by (device_share_seen v) journal window ≡ floor_reply b
   by_told (answer.Floor floor) t =
       let runs : journal.stopped ≡ false = stopped_is ∙ t.1 in
-      let above : nat_le (window_end window) (device_of v).floor ≡ false = ap (nat_le (window_end window)) floor_is ∙ lt-leb (window_end window) (shown wide.directory).floor t.2 in
-      ap (λ (x : Bool). unless_by x (if nat_le (window_end window) (device_of v).floor then reply.Sealed (device_of v).floor else reply.Floor (window_end window))) runs
-      ∙ (ap (λ (x : Bool). if x then reply.Sealed (device_of v).floor else reply.Floor (window_end window)) above ∙ ap reply.Floor (sym t.0))
+      let above : nat_le (window_end window) (device_share_seen v).floor ≡ false = ap (nat_le (window_end window)) floor_is ∙ lt-leb (window_end window) (directory_shown wide.directory).floor t.2 in
+      ap (λ (x : Bool). unless_by x (if nat_le (window_end window) (device_share_seen v).floor then reply.Sealed (device_share_seen v).floor else reply.Floor (window_end window))) runs
+      ∙ (ap (λ (x : Bool). if x then reply.Sealed (device_share_seen v).floor else reply.Floor (window_end window)) above ∙ ap reply.Floor (sym t.0))
   by_told (answer.Sealed floor) t =
       let runs : journal.stopped ≡ false = stopped_is ∙ t.1 in
-      let above : nat_le (window_end window) (device_of v).floor ≡ true = ap (nat_le (window_end window)) floor_is ∙ le-leb (window_end window) (shown wide.directory).floor t.2 in
-      ap (λ (x : Bool). unless_by x (if nat_le (window_end window) (device_of v).floor then reply.Sealed (device_of v).floor else reply.Floor (window_end window))) runs
-      ∙ (ap (λ (x : Bool). if x then reply.Sealed (device_of v).floor else reply.Floor (window_end window)) above ∙ ap reply.Sealed (floor_is ∙ sym t.0))
+      let above : nat_le (window_end window) (device_share_seen v).floor ≡ true = ap (nat_le (window_end window)) floor_is ∙ le-leb (window_end window) (directory_shown wide.directory).floor t.2 in
+      ap (λ (x : Bool). unless_by x (if nat_le (window_end window) (device_share_seen v).floor then reply.Sealed (device_share_seen v).floor else reply.Floor (window_end window))) runs
+      ∙ (ap (λ (x : Bool). if x then reply.Sealed (device_share_seen v).floor else reply.Floor (window_end window)) above ∙ ap reply.Sealed (floor_is ∙ sym t.0))
   by_told answer.Stopped t =
-      ap (λ (x : Bool). unless_by x (if nat_le (window_end window) (device_of v).floor then reply.Sealed (device_of v).floor else reply.Floor (window_end window))) (stopped_is ∙ t)
+      ap (λ (x : Bool). unless_by x (if nat_le (window_end window) (device_share_seen v).floor then reply.Sealed (device_share_seen v).floor else reply.Floor (window_end window))) (stopped_is ∙ t)
 
   pub floor_may : window ≤ 596522 → MayBe v (floor_event lane window a)
   floor_may low = (
     (λ o t. touched o (floor_touched v.start sound.start v.at sound.legal lane window (floor_reply a) o t)),
     subst (λ (r : Reply). IsAnswered v.start v.at (record { lane = lane; slot = None; call = call.Floor window; reply = r })) (by_told a told)
-        (floor_answered v.start sound.start v.at sound.legal lane (device_of v) journal (device_at v.start v.at) (journal_at v.start v.at) window low),
+        (floor_answered v.start sound.start v.at sound.legal lane (device_share_seen v) journal (device_at v.start v.at) (journal_at v.start v.at) window low),
   )
 
   -- what then stands
@@ -112,11 +112,11 @@ module _ (v : View) (sound : IsSound v) (lane window : ℕ) (wide : Wide) (stand
       }
 
       device_then : KeepsDevice v w
-      device_then = device_after v w (floor_event lane window a) n m has_device (device_of v) (leaves a quiet 0 ∙ device_at v.start v.at)
+      device_then = device_after v w (floor_event lane window a) n m has_device (device_share_seen v) (leaves a quiet 0 ∙ device_at v.start v.at)
 
-      pub quiet_device : (x : View) → KeepsDevice w x → FloorsDevice window a (device_of v) (device_of x)
+      pub quiet_device : (x : View) → KeepsDevice w x → FloorsDevice window a (device_share_seen v) (device_share_seen x)
       quiet_device x same = by a quiet told where
-        by : (b : FloorAnswer) → IsQuietFloor b → FloorTold window wide b → FloorsDevice window b (device_of v) (device_of x)
+        by : (b : FloorAnswer) → IsQuietFloor b → FloorTold window wide b → FloorsDevice window b (device_share_seen v) (device_share_seen x)
         by (answer.Floor floor) q t = absurd q
         by (answer.Sealed floor) q t = (t.0 ∙ sym floor_is, stopped_is ∙ t.1, subst (λ (f : ℕ). window_end window ≤ f) (sym floor_is) t.2, same ∙ device_then)
         by answer.Stopped q t = (stopped_is ∙ t, same ∙ device_then)
@@ -127,8 +127,8 @@ module _ (v : View) (sound : IsSound v) (lane window floor : ℕ) (wide new : Wi
   abbrev e : Event
   e = floor_event lane window (answer.Floor floor)
 
-  pub raised_wide : shown new.directory ≡ directory_raised (window_end window) (shown wide.directory)
-      → ((share : JournalShare) → log.Stands wide.journal.pending share → log.Stands new.journal.pending (journal_with (change.Floor window) Nothing share)) → HasWide w new
+  pub raised_wide : directory_shown new.directory ≡ directory_raised (window_end window) (directory_shown wide.directory)
+      → ((share : JournalShare) → PendingStands wide.journal.pending share → PendingStands new.journal.pending (journal_with (change.Floor window) Nothing share)) → HasWide w new
   raised_wide directory journal =
       let d = directory_share v.start v.at in let j = journal_share v.start v.at in
       let index : directory_share w.start w.at ≡ directory_raised (window_end window) d =
@@ -140,17 +140,17 @@ module _ (v : View) (sound : IsSound v) (lane window floor : ℕ) (wide new : Wi
       record {
         held = held_then v sound lane window wide stands (answer.Floor floor) told w n m;
         directory = directory ∙ (ap (directory_raised (window_end window)) stands.directory ∙ sym index);
-        journal = subst (log.Stands new.journal.pending) (sym logged) (journal j stands.journal);
+        journal = subst (PendingStands new.journal.pending) (sym logged) (journal j stands.journal);
       }
 
-  device_now : device_of w ≡ device_raised (window_end window) (device_of v)
-  device_now = device_after v w e n m (has_device v sound lane window wide stands (answer.Floor floor) told) (device_raised (window_end window) (device_of v))
-      (floor_device v.start sound.start v.at sound.legal lane window floor (device_of v) (device_at v.start v.at))
+  device_now : device_share_seen w ≡ device_raised (window_end window) (device_share_seen v)
+  device_now = device_after v w e n m (has_device v sound lane window wide stands (answer.Floor floor) told) (device_raised (window_end window) (device_share_seen v))
+      (floor_device v.start sound.start v.at sound.legal lane window floor (device_share_seen v) (device_at v.start v.at))
 
-  stopped_was : (device_of v).stopped ≡ false
+  stopped_was : (device_share_seen v).stopped ≡ false
   stopped_was = stopped_is v sound lane window wide stands (answer.Floor floor) told ∙ told.1
 
-  pub raised_device : (x : View) → KeepsDevice w x → FloorsDevice window (answer.Floor floor) (device_of v) (device_of x)
+  pub raised_device : (x : View) → KeepsDevice w x → FloorsDevice window (answer.Floor floor) (device_share_seen v) (device_share_seen x)
   raised_device x same = (
     told.0,
     stopped_was,

@@ -5,7 +5,7 @@ use Rattle.gor_model.specs.declared.start.Move.TheVariants.{Took, Gave}
 use Rattle.gor_hall.specs.declared.pass.Pass.{Pass}
 use Rattle.gor_hall.specs.Passes.{moves}
 use Rattle.gor_steps.specs.Gets.{KeepsDirectory}
-use Rattle.gor_steps.specs.Moves.{IsDirectory, IsSeries, Holds, ReadsApart, AddsMoves}
+use Rattle.gor_steps.specs.Moves.{IsDirectory, IsSeries, HoldsKind, ReadsApart, AddsMoves}
 use Rattle.gor_steps.proofs.MoveLaws.{series_object, directory_apart, no_moves, gives, takes_other, takes_series, looked}
 
 module _ (slots : ℕ) where
@@ -16,7 +16,7 @@ module _ (slots : ℕ) where
   abbrev at_slot : ℕ → List Move
   at_slot slot = Gave (slot + 2) ∷ Took (slot + 2) ∷ Gave 1 ∷ Took 1 ∷ []
 
-  first_apart : ¬ Holds (IsSeries slots) (Gave 1 ∷ Took 1 ∷ [])
+  first_apart : ¬ HoldsKind (IsSeries slots) (Gave 1 ∷ Took 1 ∷ [])
   first_apart h = at h.1 where
     at : IsSeries slots 1 ⊎ ⊥ → ⊥
     at (inl is) = directory_apart slots is
@@ -28,9 +28,9 @@ module _ (slots : ℕ) where
       gives slots May ⊥ (slot + 2) (Took (slot + 2) ∷ Gave 1 ∷ Took 1 ∷ [])
       (takes_series slots May ⊥ (slot + 2) (Gave 1 ∷ Took 1 ∷ []) (inr s) first_apart (λ h. absurd (h.0 refl)) (looked slots May ⊥ (inl refl)))
 
-  again_apart : (slot : ℕ) → slot < slots → ¬ Holds (IsSeries slots) (Took 1 ∷ at_slot slot)
+  again_apart : (slot : ℕ) → slot < slots → ¬ HoldsKind (IsSeries slots) (Took 1 ∷ at_slot slot)
   again_apart slot low h = at h where
-    at : IsSeries slots 1 ⊎ (¬ IsSeries slots (slot + 2) × Holds (IsSeries slots) (Took (slot + 2) ∷ Gave 1 ∷ Took 1 ∷ [])) → ⊥
+    at : IsSeries slots 1 ⊎ (¬ IsSeries slots (slot + 2) × HoldsKind (IsSeries slots) (Took (slot + 2) ∷ Gave 1 ∷ Took 1 ∷ [])) → ⊥
     at (inl is) = directory_apart slots is
     at (inr given) = given.0 (series_object slots slot low)
 

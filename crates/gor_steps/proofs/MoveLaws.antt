@@ -2,7 +2,7 @@
 use Rattle.std.proofs.Common.{◌⊎◌, ℕ, ◌+◌, ◌<◌, List, [], ◌∷◌, arith}
 use Rattle.gor_model.specs.declared.start.Move.{Move}
 use Rattle.gor_model.specs.declared.start.Move.TheVariants.{Took, Gave}
-use Rattle.gor_steps.specs.Moves.{IsDirectory, IsSeries, Holds, HasGiven, TakesApart}
+use Rattle.gor_steps.specs.Moves.{IsDirectory, IsSeries, HoldsKind, HasGiven, TakesApart}
 
 pub series_object : (slots slot : ℕ) → slot < slots → IsSeries slots (slot + 2)
 series_object slots slot low = (omega arith, omega arith)
@@ -27,7 +27,7 @@ module _ (slots : ℕ) (MayTake : ℕ → Type 0) (MayKeep : Type 0) where
   pub takes_other : (o : ℕ) (these : List Move) → MayTake o → ¬ IsSeries slots o → Apart these → Apart (Took o ∷ these)
   takes_other o these may other a = record { only = (may, a.only); one = ((λ is. absurd (other is)), a.one); apart = ((λ is. absurd (other is)), a.apart) }
 
-  pub takes_series : (o : ℕ) (these : List Move) → MayTake o → ¬ Holds (IsSeries slots) these → (Holds IsDirectory these → HasGiven (IsSeries slots) these ⊎ MayKeep) → Apart these
+  pub takes_series : (o : ℕ) (these : List Move) → MayTake o → ¬ HoldsKind (IsSeries slots) these → (HoldsKind IsDirectory these → HasGiven (IsSeries slots) these ⊎ MayKeep) → Apart these
       → Apart (Took o ∷ these)
   takes_series o these may one keeps a = record { only = (may, a.only); one = ((λ is. one), a.one); apart = ((λ is. keeps), a.apart) }
 

@@ -7,7 +7,7 @@ use Rattle.gor_model.specs.Objects.{share_of}
 use Rattle.gor_model.specs.Starts.{IsStart}
 use Rattle.gor_model.proofs.NumberedLaws.{directory_at, series_at, journal_at}
 use Rattle.gor_rule.specs.declared.view.View.{View}
-use Rattle.gor_hall.specs.Steps.{HasTaken, HasWaited}
+use Rattle.gor_hall.specs.Steps.{HasTakenObject, HasWaited}
 use Rattle.gor_hall.proofs.Holding.{waited_stands}
 use Rattle.gor_steps.specs.Views.{Takes, IsSound}
 
@@ -27,10 +27,10 @@ module _ {V : Type 0} (Stands : Start → ℕ → V → Share → Type 0) where
 
   -- ---- a take that waits for nobody is one after no refused take
 
-  pub at_once : (v w : View) (o : ℕ) (x : V) → HasTaken Stands v o x w → HasWaited Stands v o x w
+  pub at_once : (v w : View) (o : ℕ) (x : V) → HasTakenObject Stands v o x w → HasWaited Stands v o x w
   at_once v w o x taken = (0, taken)
 
-  pub takes_it : (v w : View) (o : ℕ) (x : V) {start : Start} → IsStart start → v.start ≡ start → HasTaken Stands v o x w → Takes v o w
+  pub takes_it : (v w : View) (o : ℕ) (x : V) {start : Start} → IsStart start → v.start ≡ start → HasTakenObject Stands v o x w → Takes v o w
   takes_it v w o x {start} sound is taken = record {
     none = record { start = ap (λ (z : View). z.start) taken.1; seen = ap (λ (z : View). z.seen) taken.1; mine = ap (λ (z : View). z.mine) taken.1 };
     held = ap (λ (z : View). z.held) taken.1;

@@ -9,7 +9,7 @@ use Rattle.gor_model.specs.declared.start.Start.{Start}
 use Rattle.gor_model.specs.Answers.{IsAnswered, MayPut}
 use Rattle.gor_model.specs.AnswersByShares.{put_there_by}
 use Rattle.gor_model.specs.Names.{key_of}
-use Rattle.gor_model.specs.Objects.{Has, Touches, share_of}
+use Rattle.gor_model.specs.Objects.{Has, TouchesObject, share_of}
 use Rattle.gor_model.specs.Shares.{JournalShare, SeriesShare, OfSlot, OfJournal, OfSeries, journal_share}
 use Rattle.gor_model.proofs.EventLaws.{row_share, put_event as put_as, put_answered, put_touched, put_series, put_journal}
 use Rattle.gor_model.proofs.NumberedLaws.{journal_at, put_leaves}
@@ -17,9 +17,9 @@ use Rattle.gor_model.proofs.ObjectLaws.{untouched}
 use Rattle.gor_rule.specs.declared.view.View.{View}
 use Rattle.gor_hall.specs.Steps.{HasMarked}
 use Rattle.gor_cell.specs.Packed.{Packed}
-use Rattle.gor_cell.specs.Stands as cells
-use Rattle.gor_journal.specs.Stands as journals
-use Rattle.gor_steps.specs.declared.held.Both.{Both}
+use Rattle.gor_cell.specs.Stands.{CellStands}
+use Rattle.gor_journal.specs.Stands.{PendingStands}
+use Rattle.gor_steps.specs.declared.held.HeldPair.{HeldPair}
 use Rattle.gor_steps.specs.declared.puts.NewPoint.{NewPoint}
 use Rattle.gor_steps.specs.declared.puts.PutAnswer.{PutAnswer}
 use Rattle.gor_steps.specs.declared.puts.PutAnswer.TheVariants as answer
@@ -29,11 +29,11 @@ use Rattle.gor_steps.proofs.ReadLaws.{MayBe}
 use Rattle.gor_steps.proofs.ViewLaws.{IsRowOf, row_here, marked_start, series_after, journal_after}
 
 -- the uid that a cell shows is that of its share
-pub uid_by : (n : ℕ) (live : Option Packed) (share : SeriesShare) → cells.Stands live (Some share) → IfSome live (λ s. n ≡ s.uid) → n ≡ share.row.uid
+pub uid_by : (n : ℕ) (live : Option Packed) (share : SeriesShare) → CellStands live (Some share) → IfSome live (λ s. n ≡ s.uid) → n ≡ share.row.uid
 uid_by n None share st is = absurd st
 uid_by n (Some s) share st is = is ∙ sym st.uid
 
-pub uid_of : (P : ℕ → Type 0) (live : Option Packed) (share : SeriesShare) → cells.Stands live (Some share) → P share.row.uid → IfSome live (λ s. P s.uid)
+pub uid_of : (P : ℕ → Type 0) (live : Option Packed) (share : SeriesShare) → CellStands live (Some share) → P share.row.uid → IfSome live (λ s. P s.uid)
 uid_of P None share st holds = absurd st
 uid_of P (Some s) share st holds = subst P st.uid holds
 
@@ -70,7 +70,7 @@ module _ (v : View) (sound : IsSound v) (lane slot : ℕ) (p : NewPoint) (row : 
     answered = subst (λ (r : Reply). IsAnswered v.start v.at (put_as lane slot name key p.time p.word r)) told
         (put_answered v.start sound.start v.at sound.legal lane slot name key p.time p.word row log may low at_slot (journal_at v.start v.at))
 
-    touched : (o : ℕ) → Touches v.start v.at (put_event lane (Some slot) p a) o → Has ((slot + 2) ∷ (v.start.slots + 2) ∷ []) o
+    touched : (o : ℕ) → TouchesObject v.start v.at (put_event lane (Some slot) p a) o → Has ((slot + 2) ∷ (v.start.slots + 2) ∷ []) o
     touched o t = put_touched v.start sound.start v.at sound.legal lane slot name key p.time p.word row log may low at_slot (journal_at v.start v.at) (put_reply a) o t
 
     pub put_may : Has v.held (slot + 2) → Has v.held (v.start.slots + 2) → MayBe v (put_event lane (Some slot) p a)
@@ -103,8 +103,8 @@ module _ (v : View) (sound : IsSound v) (lane slot : ℕ) (p : NewPoint) (row : 
   journal_then (answer.Full slots) = put_leaves v.start v.at lane (Some slot) name key p.time p.word (reply.Full slots) tt (v.start.slots + 2) ∙ journal_at v.start v.at
   journal_then answer.Stopped = put_leaves v.start v.at lane (Some slot) name key p.time p.word reply.Stopped tt (v.start.slots + 2) ∙ journal_at v.start v.at
 
-  pub put_both : (w : View) (n : ℕ) (a : PutAnswer) (old new : Both) → HasMarked v (put_event lane (Some slot) p a) n w → Has v.held (slot + 2) → Has v.held (v.start.slots + 2)
-      → cells.Stands old.cell.live (Some share) → HasJournal v old.journal → PutsIn p old new a → HasBoth w slot new
+  pub put_both : (w : View) (n : ℕ) (a : PutAnswer) (old new : HeldPair) → HasMarked v (put_event lane (Some slot) p a) n w → Has v.held (slot + 2) → Has v.held (v.start.slots + 2)
+      → CellStands old.cell.live (Some share) → HasJournal v old.journal → PutsIn p old new a → HasBoth w slot new
   put_both w n a old new m series journal stands logged puts =
       let e = put_event lane (Some slot) p a in
       let told = puts.told share log stands logged in
@@ -114,6 +114,6 @@ module _ (v : View) (sound : IsSound v) (lane slot : ℕ) (p : NewPoint) (row : 
         low = subst (λ (z : Start). slot < z.slots) (sym (marked_start v w e n m)) low;
         held_series = held (slot + 2) series;
         held_journal = subst (Has w.held) slots (held (v.start.slots + 2) journal);
-        series = subst (cells.Stands new.cell.live) (sym (series_after v w e n m slot low series (Some (series_put a p share)) (series_then a told))) (puts.cell share stands);
-        journal = subst (journals.Stands new.journal.pending) (sym (journal_after v w e n m journal (journal_put a (put_change p) (OfSeries row.uid) log) (journal_then a))) (puts.journal share log stands logged);
+        series = subst (CellStands new.cell.live) (sym (series_after v w e n m slot low series (Some (series_put a p share)) (series_then a told))) (puts.cell share stands);
+        journal = subst (PendingStands new.journal.pending) (sym (journal_after v w e n m journal (journal_put a (put_change p) (OfSeries row.uid) log) (journal_then a))) (puts.journal share log stands logged);
       }

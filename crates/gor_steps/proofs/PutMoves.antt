@@ -4,7 +4,7 @@ use Rattle.gor_model.specs.declared.start.Move.{Move}
 use Rattle.gor_model.specs.declared.start.Move.TheVariants.{Took, Gave}
 use Rattle.gor_hall.specs.declared.pass.Pass.{Pass}
 use Rattle.gor_hall.specs.Passes.{moves}
-use Rattle.gor_steps.specs.Moves.{IsDirectory, IsSeries, IsJournal, Holds, HasGiven, PutsApart, AddsMoves}
+use Rattle.gor_steps.specs.Moves.{IsDirectory, IsSeries, IsJournal, HoldsKind, HasGiven, PutsApart, AddsMoves}
 use Rattle.gor_steps.specs.Puts.{PutsAgain, PutsAt, PutsAbsent, KeepsAll, BeginsOrStops}
 use Rattle.std.specs.Prelude.{Result, Ok, Err, IfOk, OnErr, ⊤}
 use Rattle.gor_model.specs.Names.{key_of}
@@ -27,12 +27,12 @@ module _ (slots : ℕ) (Keep : Type 0) where
   journal_over : (these : List Move) → Good these → Good (Gave (slots + 2) ∷ Took (slots + 2) ∷ these)
   journal_over these good = gives slots May Keep (slots + 2) (Took (slots + 2) ∷ these) (takes_other slots May Keep (slots + 2) these (inr (inr refl)) (journal_apart slots) good)
 
-  series_over : (slot : ℕ) → slot < slots → (these : List Move) → ¬ Holds (IsSeries slots) these → (Holds IsDirectory these → HasGiven (IsSeries slots) these ⊎ Keep) → Good these → Good (Took (slot + 2) ∷ these)
+  series_over : (slot : ℕ) → slot < slots → (these : List Move) → ¬ HoldsKind (IsSeries slots) these → (HoldsKind IsDirectory these → HasGiven (IsSeries slots) these ⊎ Keep) → Good these → Good (Took (slot + 2) ∷ these)
   series_over slot low these one keeps good = takes_series slots May Keep (slot + 2) these (inr (inl (series_object slots slot low))) one keeps good
 
-  look_free : (these : List Move) → ¬ Holds (IsSeries slots) these → ¬ Holds (IsSeries slots) (Took 1 ∷ these)
+  look_free : (these : List Move) → ¬ HoldsKind (IsSeries slots) these → ¬ HoldsKind (IsSeries slots) (Took 1 ∷ these)
   look_free these free h = at h where
-    at : IsSeries slots 1 ⊎ Holds (IsSeries slots) these → ⊥
+    at : IsSeries slots 1 ⊎ HoldsKind (IsSeries slots) these → ⊥
     at (inl is) = directory_apart slots is
     at (inr more) = free more
 
@@ -40,7 +40,7 @@ module _ (slots : ℕ) (Keep : Type 0) where
   pub two_over : (these : List Move) → Good these → Good (Gave 1 ∷ Gave (slots + 2) ∷ Took (slots + 2) ∷ Took 1 ∷ these)
   two_over these good = gives slots May Keep 1 (Gave (slots + 2) ∷ Took (slots + 2) ∷ Took 1 ∷ these) (journal_over (Took 1 ∷ these) (look_over these good))
 
-  pub all_over : (slot : ℕ) → slot < slots → (these : List Move) → ¬ Holds (IsSeries slots) these → HasGiven (IsSeries slots) these ⊎ Keep → Good these
+  pub all_over : (slot : ℕ) → slot < slots → (these : List Move) → ¬ HoldsKind (IsSeries slots) these → HasGiven (IsSeries slots) these ⊎ Keep → Good these
       → Good (Gave 1 ∷ Gave (slot + 2) ∷ Gave (slots + 2) ∷ Took (slots + 2) ∷ Took (slot + 2) ∷ Took 1 ∷ these)
   all_over slot low these free keeps good =
       let held = Took (slot + 2) ∷ Took 1 ∷ these in
@@ -54,7 +54,7 @@ module _ (slots : ℕ) (Keep : Type 0) where
   look_good : Good looked
   look_good = gives slots May Keep 1 (Took 1 ∷ []) (look_over [] (no_moves slots May Keep))
 
-  look_done : ¬ Holds (IsSeries slots) looked
+  look_done : ¬ HoldsKind (IsSeries slots) looked
   look_done h = look_free [] (λ none. none) h.1
 
   -- a series that had another key, and one that had the key
@@ -89,7 +89,7 @@ module _ (slots : ℕ) (Keep : Type 0) where
     there_good slot low,
   )
 
-  other_done : (slot : ℕ) → slot < slots → ¬ Holds (IsSeries slots) (other_at slot)
+  other_done : (slot : ℕ) → slot < slots → ¬ HoldsKind (IsSeries slots) (other_at slot)
   other_done slot low h = h.0 (series_object slots slot low)
 
   pub puts_again : (old mid back new : Pass) (slot : ℕ) → slot < slots → moves mid ≡ Gave 1 ∷ Took 1 ∷ moves old → moves back ≡ Gave (slot + 2) ∷ Took (slot + 2) ∷ moves mid → PutsAgain slots back new → AddsMoves old new (PutsApart slots Keep)

@@ -8,7 +8,7 @@ use Rattle.gor_model.specs.declared.event.Reply.TheVariants as reply
 use Rattle.gor_model.specs.declared.start.Row.{Row}
 use Rattle.gor_model.specs.Names.{key_of}
 use Rattle.gor_model.specs.Answers.{IsAnswered, in_range}
-use Rattle.gor_model.specs.Objects.{Has, Touches, share_of}
+use Rattle.gor_model.specs.Objects.{Has, TouchesObject, share_of}
 use Rattle.gor_model.specs.Shares.{DirectoryShare, directory_share}
 use Rattle.gor_model.proofs.EventLaws.{row_share, got, get_answered, get_touched, get_leaves, miss_answered, miss_touched}
 use Rattle.gor_model.proofs.NumberedLaws.{directory_at, miss_leaves}
@@ -18,7 +18,7 @@ use Rattle.gor_cell.specs.declared.cell.Cell.{Cell}
 use Rattle.gor_cell.specs.declared.copied.Copied.{Copied}
 use Rattle.gor_cell.specs.Steps.{holds_key, IsCopyOf, copied_points}
 use Rattle.gor_cell.proofs.ByShares.{copy_by_share}
-use Rattle.gor_dir.specs.Listings.{Listing, shown}
+use Rattle.gor_dir.specs.Listings.{Listing, directory_shown}
 use Rattle.gor_steps.specs.declared.reads.Wanted.{Wanted}
 use Rattle.gor_steps.specs.Gets.{missed_event, found_event}
 use Rattle.gor_steps.specs.Views.{HasDirectory, HasSeries, IsSound, KeepsShares}
@@ -26,12 +26,12 @@ use Rattle.gor_steps.proofs.ViewLaws.{directory_stays, marked_start, marked_shar
 
 -- what a mark asks of an event, but for its lane and the events left
 abbrev pub MayBe : View → Event → Type 0
-MayBe v e = ((o : ℕ) → Touches v.start v.at e o → Has v.held o) × IsAnswered v.start v.at e
+MayBe v e = ((o : ℕ) → TouchesObject v.start v.at e o → Has v.held o) × IsAnswered v.start v.at e
 
 module _ (v : View) (sound : IsSound v) (lane : ℕ) (wanted : Wanted) where
   -- ---- an absent key
 
-  module _ (i : Listing) (stands : HasDirectory v i) (absent : (shown i).entry (key_of wanted.name.now) ≡ None) (has : Has v.held 1) where
+  module _ (i : Listing) (stands : HasDirectory v i) (absent : (directory_shown i).entry (key_of wanted.name.now) ≡ None) (has : Has v.held 1) where
     none : (directory_share v.start v.at).entry (key_of wanted.name.now) ≡ None
     none = sym (ap (λ (d : DirectoryShare). d.entry (key_of wanted.name.now)) stands) ∙ absent
 

@@ -29,14 +29,14 @@ use Rattle.gor_hall.specs.Steps.{HasMarked, HasLooked}
 use Rattle.gor_hall.specs.declared.pass.Pass.{Pass}
 use Rattle.gor_hall.specs.Passes.{view, lane_of, left_of_pass}
 use Rattle.gor_cell.specs.declared.cell.Cell.{Cell}
-use Rattle.gor_cell.specs.Packed.{Packed, points_of}
-use Rattle.gor_cell.specs.Stands as cells
+use Rattle.gor_cell.specs.Packed.{Packed, packed_points}
+use Rattle.gor_cell.specs.Stands.{CellStands, PackedStands}
 use Rattle.gor_cell.specs.Steps.{ArePieces, after_seal}
-use Rattle.gor_journal.specs.Stands as journals
-use Rattle.gor_steps.specs.declared.held.Both.{Both}
+use Rattle.gor_journal.specs.Stands.{PendingStands}
+use Rattle.gor_steps.specs.declared.held.HeldPair.{HeldPair}
 use Rattle.gor_steps.specs.declared.seals.Made.{Made}
 use Rattle.gor_steps.specs.declared.seals.SealReply.{SealReply}
-use Rattle.gor_steps.specs.Finishes.{AreSealed, AreSealedBelow, HasRaised, KeepsDevice, Seals, SealsNone, SealsIn, device_of, is_open_to, seal_event}
+use Rattle.gor_steps.specs.Finishes.{SeriesAreSealed, AreSealedBelow, HasRaised, KeepsDevice, Seals, SealsNone, SealsIn, device_share_seen, is_open_to, seal_event}
 use Rattle.gor_steps.specs.Puts.{HasBoth}
 use Rattle.gor_steps.specs.Views.{HasSeries, HasNone, HasEvent, IsSound, SeesMore}
 use Rattle.gor_steps.proofs.FinishLaws.{device_after, device_stays}
@@ -56,7 +56,7 @@ raised_stays window v w start seen same r = record {
 }
 
 pub below_stays : (window slot : ℕ) (v w : View) → w.start ≡ v.start → w.seen ≡ v.seen → AreSealedBelow window slot v → AreSealedBelow window slot w
-below_stays window slot v w start seen are = subst (λ (z : Start × History). AreSealed z.0 (changes z.1) window slot) (λ i. (sym start i, sym seen i)) are
+below_stays window slot v w start seen are = subst (λ (z : Start × History). SeriesAreSealed z.0 (changes z.1) window slot) (λ i. (sym start i, sym seen i)) are
 
 pub event_from : (v u w : View) (n : ℕ) (e : Event) → HasNone v u → HasEvent u n e w → HasEvent v n e w
 event_from v u w n e none h = record {
@@ -75,12 +75,12 @@ event_from v u w n e none h = record {
 pub record IsOpenRow (v : View) (slot window : ℕ) (live : Option Packed) : Type 0 where
   pub row : Row
   pub here : IsRowOf v slot (key_of row.name) row
-  pub stands : cells.Stands live (Some (record { key = key_of row.name; row = row }))
+  pub stands : CellStands live (Some (record { key = key_of row.name; row = row }))
   pub under : row.floor < window_end window
 
 pub open_row : (v : View) (slot window : ℕ) (c : Cell) → HasSeries v slot c → is_open_to window c.live ≡ true → IsOpenRow v slot window c.live
 open_row v slot window c stands below = at c.live (series_share v.start v.at slot) refl stands below where
-  at : (live : Option Packed) (share : Option SeriesShare) → series_share v.start v.at slot ≡ share → cells.Stands live share → is_open_to window live ≡ true → IsOpenRow v slot window live
+  at : (live : Option Packed) (share : Option SeriesShare) → series_share v.start v.at slot ≡ share → CellStands live share → is_open_to window live ≡ true → IsOpenRow v slot window live
   at None share is st o = absurd (let wrong : false ≡ true = o in cc)
   at (Some s) None is st o = absurd st
   at (Some s) (Some share) is st o =
@@ -88,33 +88,33 @@ open_row v slot window c stands below = at c.live (series_share v.start v.at slo
       record {
         row = share.row;
         here = is ∙ ap (λ (k : List ℕ). Some (record { key = k; row = share.row })) own;
-        stands = subst (λ (k : List ℕ). cells.StandsFor s (record { key = k; row = share.row })) own st;
+        stands = subst (λ (k : List ℕ). PackedStands s (record { key = k; row = share.row })) own st;
         under = subst (λ (f : ℕ). f < window_end window) (sym st.floor) (ltb-true s.floor (window_end window) o);
       }
 
-closed_share : (window : ℕ) (live : Option Packed) (share : Option SeriesShare) → cells.Stands live share → is_open_to window live ≡ false → IfSome share (λ s. window_end window ≤ s.row.floor)
+closed_share : (window : ℕ) (live : Option Packed) (share : Option SeriesShare) → CellStands live share → is_open_to window live ≡ false → IfSome share (λ s. window_end window ≤ s.row.floor)
 closed_share window live None st o = tt
 closed_share window None (Some share) st o = absurd st
 closed_share window (Some s) (Some share) st o = subst (λ (f : ℕ). window_end window ≤ f) (sym st.floor) (ltb-false s.floor (window_end window) o)
 
 -- what a cell shows is its share's
-pub shows : (live : Option Packed) (share : SeriesShare) (name : List ℕ) (uid : ℕ) → cells.Stands live (Some share) → IfSome live (λ s. (name ≡ s.name) × (uid ≡ s.uid)) → (name ≡ share.row.name) × (uid ≡ share.row.uid)
+pub shows : (live : Option Packed) (share : SeriesShare) (name : List ℕ) (uid : ℕ) → CellStands live (Some share) → IfSome live (λ s. (name ≡ s.name) × (uid ≡ s.uid)) → (name ≡ share.row.name) × (uid ≡ share.row.uid)
 shows None share name uid st is = absurd st
 shows (Some s) share name uid st is = (is.0 ∙ sym st.name, is.1 ∙ sym st.uid)
 
-points_by : (P : List Point → Type 0) (live : Option Packed) (share : SeriesShare) → cells.Stands live (Some share) → IfSome live (λ s. P (points_of s)) → P share.row.points
+points_by : (P : List Point → Type 0) (live : Option Packed) (share : SeriesShare) → CellStands live (Some share) → IfSome live (λ s. P (packed_points s)) → P share.row.points
 points_by P None share st are = absurd st
 points_by P (Some s) share st are = subst P (sym st.points) are
 
 pub uid_number : (v : View) → IsSound v → (slot window : ℕ) (live : Option Packed) → IsOpenRow v slot window live → IfSome live (λ s. IsNumber s.uid)
 uid_number v sound slot window live o = at live o.stands where
-  at : (live : Option Packed) → cells.Stands live (Some (record { key = key_of o.row.name; row = o.row })) → IfSome live (λ s. IsNumber s.uid)
+  at : (live : Option Packed) → CellStands live (Some (record { key = key_of o.row.name; row = o.row })) → IfSome live (λ s. IsNumber s.uid)
   at None st = absurd st
   at (Some s) st = subst IsNumber st.uid (slot_number v sound slot (key_of o.row.name) o.row o.here)
 
 -- ---- the event
 
-module _ (v : View) (sound : IsSound v) (lane slot first window : ℕ) (both : Both) (stands : HasBoth v slot both) (raised : HasRaised window v) (top : Has v.held 0) (o : IsOpenRow v slot window both.cell.live)
+module _ (v : View) (sound : IsSound v) (lane slot first window : ℕ) (both : HeldPair) (stands : HasBoth v slot both) (raised : HasRaised window v) (top : Has v.held 0) (o : IsOpenRow v slot window both.cell.live)
     (made : Made) (seals : SealsIn first window both made) where
   abbrev row : Row
   row = o.row
@@ -145,8 +145,8 @@ module _ (v : View) (sound : IsSound v) (lane slot first window : ℕ) (both : B
 
   pub seal_may : MayBe v (seal_event lane slot made.name window)
   seal_may = subst (MayBe v) named (
-    (λ p t. touched p (seal_touched v.start sound.start v.at sound.legal lane slot key window row (device_of v) stands.low at_slot (device_at v.start v.at) (subst IsFalse (sym raised.runs) refl) o.under raised.reached p t)),
-    seal_answered v.start sound.start v.at sound.legal lane slot key window row (device_of v) stands.low at_slot (device_at v.start v.at) (subst IsFalse (sym raised.runs) refl) o.under raised.reached,
+    (λ p t. touched p (seal_touched v.start sound.start v.at sound.legal lane slot key window row (device_share_seen v) stands.low at_slot (device_at v.start v.at) (subst IsFalse (sym raised.runs) refl) o.under raised.reached p t)),
+    seal_answered v.start sound.start v.at sound.legal lane slot key window row (device_share_seen v) stands.low at_slot (device_at v.start v.at) (subst IsFalse (sym raised.runs) refl) o.under raised.reached,
   )
 
   -- ---- what then stands
@@ -168,9 +168,9 @@ module _ (v : View) (sound : IsSound v) (lane slot first window : ℕ) (both : B
     abbrev pub sealed_series : SealedSeries
     sealed_series = sealed_row (sealed_to (window_end window) row)
 
-    pub device_then : device_of w ≡ device_sealed sealed_series (device_of v)
-    device_then = device_after v w e n m top (device_sealed sealed_series (device_of v))
-        (seal_device v.start sound.start v.at sound.legal lane slot key row.name window row stands.low at_slot (device_of v) (device_at v.start v.at))
+    pub device_then : device_share_seen w ≡ device_sealed sealed_series (device_share_seen v)
+    device_then = device_after v w e n m top (device_sealed sealed_series (device_share_seen v))
+        (seal_device v.start sound.start v.at sound.legal lane slot key row.name window row stands.low at_slot (device_share_seen v) (device_at v.start v.at))
 
     pub sealed_both : HasBoth w slot made.both
     sealed_both =
@@ -180,9 +180,9 @@ module _ (v : View) (sound : IsSound v) (lane slot first window : ℕ) (both : B
           low = subst (λ (z : Start). slot < z.slots) (sym start_is) stands.low;
           held_series = held (slot + 2) stands.held_series;
           held_journal = subst (Has w.held) slots (held (v.start.slots + 2) stands.held_journal);
-          series = subst (cells.Stands made.both.cell.live) (sym series_then) (seals.cell share o.stands);
-          journal = subst (journals.Stands made.both.journal.pending) (sym journal_then)
-              (subst (λ (u : ℕ). journals.Stands made.both.journal.pending (journal_with (change.Seal key window) (OfSeries u) (journal_share v.start v.at))) told.1 (seals.journal key (journal_share v.start v.at) stands.journal));
+          series = subst (CellStands made.both.cell.live) (sym series_then) (seals.cell share o.stands);
+          journal = subst (PendingStands made.both.journal.pending) (sym journal_then)
+              (subst (λ (u : ℕ). PendingStands made.both.journal.pending (journal_with (change.Seal key window) (OfSeries u) (journal_share v.start v.at))) told.1 (seals.journal key (journal_share v.start v.at) stands.journal));
         }
 
     pub slot_is : sealed_series.slot ≡ slot
@@ -220,7 +220,7 @@ module _ (v : View) (sound : IsSound v) (lane slot first window : ℕ) (both : B
         (sym (subst (λ (z : Start × History). series_share z.0 z.1 slot ≡ Some (after_seal window share)) (λ i. (start_is i, at_is i)) series_then)) (reached_row row.floor (window_end window))
 
     pub below_then : AreSealedBelow window slot v → AreSealedBelow window (slot + 1) w
-    below_then are = subst (λ (z : Start × History). AreSealed z.0 (changes z.1) window (slot + 1)) (λ i. (sym start_is i, sym seen_is i))
+    below_then are = subst (λ (z : Start × History). SeriesAreSealed z.0 (changes z.1) window (slot + 1)) (λ i. (sym start_is i, sym seen_is i))
         (sealed_one v.start sound.start (e ∷ m.0) m.3 window slot own_so (sealed_later v.start window slot v.seen (e ∷ m.0) begins m.3 raised.seen are))
 
 -- ---- a look over a series that needs no seal
@@ -264,7 +264,7 @@ module _ (v w : View) (is : IsStart v.start) (slot n : ℕ) (low : slot < v.star
   look_below window r closed are =
       let so : IfSome (series_share v.start looked.0 slot) (λ s. window_end window ≤ s.row.floor) =
       subst (λ (z : Start × History). IfSome (series_share z.0 z.1 slot) (λ s. window_end window ≤ s.row.floor)) (λ i. (look_start i, look_at i)) (closed_share window c.live (series_share w.start w.at slot) look_series closed) in
-      subst (λ (z : Start × History). AreSealed z.0 (changes z.1) window (slot + 1)) (λ i. (sym look_start i, sym look_seen i))
+      subst (λ (z : Start × History). SeriesAreSealed z.0 (changes z.1) window (slot + 1)) (λ i. (sym look_start i, sym look_seen i))
       (sealed_one v.start is looked.0 looked.3 window slot so (sealed_later v.start window slot v.seen looked.0 looked.1.1 looked.3 r.seen are))
 
 -- ---- gives
@@ -276,7 +276,7 @@ both_given slots slot low =
     rw (a, b, c) (rw (d, e) refl)
 
 pub device_gave_one : (w x : View) (o : ℕ) → x ≡ gave w o → KeepsDevice w x
-device_gave_one w x o is = ap (λ (z : View). device_of z) is
+device_gave_one w x o is = ap (λ (z : View). device_share_seen z) is
 
 pub more_gave : (v w x : View) (o : ℕ) → x ≡ gave w o → SeesMore v w → SeesMore v x
 more_gave v w x o is m = subst (SeesMore v) (sym is) (record { start = m.start; begins = m.begins; legal = m.legal; mine = m.mine; own = m.own })

@@ -20,7 +20,7 @@ use Rattle.gor_model.proofs.LegalLaws.{legal_fits}
 use Rattle.gor_model.proofs.ObjectLaws.{slots}
 use Rattle.gor_model.proofs.PlainMapLaws.{row_after-cons, row_after_change, with_point, raised_to}
 use Rattle.gor_model.proofs.SlotLaws.{ChangesFit, no_stray_seals}
-use Rattle.gor_steps.specs.Finishes.{AreSealed}
+use Rattle.gor_steps.specs.Finishes.{SeriesAreSealed}
 
 -- ---- the shard's floor never falls
 
@@ -68,19 +68,19 @@ module _ (start : Start) (window slot : ℕ) where
     at true (Some r) so = λ low. above r.floor (window_end w) (so low)
     at false row so = so
 
-  one_more : (c : Option Change) (C : List Change) → ChangesFit start C → window_end window ≤ shard_floor start C → AreSealed start C window slot → AreSealed start (cons_option c C) window slot
+  one_more : (c : Option Change) (C : List Change) → ChangesFit start C → window_end window ≤ shard_floor start C → SeriesAreSealed start C window slot → SeriesAreSealed start (cons_option c C) window slot
   one_more None C fit reached are = are
   one_more (Some c) C fit reached are = λ key. subst (λ (r : Option Row). IfSome r IsSo) (sym (row_after-cons start c C key (no_stray_seals start C fit key))) (more C reached key c (row_after start C key) (are key))
 
-  on : (news seen : History) → Legal start (news ++ seen) → window_end window ≤ shard_floor start (changes seen) → AreSealed start (changes seen) window slot → AreSealed start (changes (news ++ seen)) window slot
+  on : (news seen : History) → Legal start (news ++ seen) → window_end window ≤ shard_floor start (changes seen) → SeriesAreSealed start (changes seen) window slot → SeriesAreSealed start (changes (news ++ seen)) window slot
   on [] seen legal reached are = are
   on (e ∷ news) seen legal reached are =
       one_more (changed e.call e.reply) (changes (news ++ seen)) (legal_fits start (news ++ seen) legal.0) (floor_on start news seen (window_end window) reached) (on news seen legal.0 reached are)
 
   -- they stay so in a longer history
-  pub sealed_later : (seen log : History) → IsBeginning seen log → Legal start log → window_end window ≤ shard_floor start (changes seen) → AreSealed start (changes seen) window slot → AreSealed start (changes log) window slot
+  pub sealed_later : (seen log : History) → IsBeginning seen log → Legal start log → window_end window ≤ shard_floor start (changes seen) → SeriesAreSealed start (changes seen) window slot → SeriesAreSealed start (changes log) window slot
   sealed_later seen log begins legal reached are =
-      subst (λ (h : History). AreSealed start (changes h) window slot) begins.1 (on begins.0 seen (subst (Legal start) (sym begins.1) legal) reached are)
+      subst (λ (h : History). SeriesAreSealed start (changes h) window slot) begins.1 (on begins.0 seen (subst (Legal start) (sym begins.1) legal) reached are)
 
 -- ---- one slot more, by the share of its series
 
@@ -95,7 +95,7 @@ by_share start is h legal window slot share here so key row there at =
     subst (λ (s : Option SeriesShare). IfSome s (λ s. window_end window ≤ s.row.floor)) (sym here ∙ held) so
 
 pub sealed_one : (start : Start) (is : IsStart start) (h : History) (legal : Legal start h) (window slot : ℕ) → IfSome (series_share start h slot) (λ s. window_end window ≤ s.row.floor)
-    → AreSealed start (changes h) window slot → AreSealed start (changes h) window (slot + 1)
+    → SeriesAreSealed start (changes h) window slot → SeriesAreSealed start (changes h) window (slot + 1)
 sealed_one start is h legal window slot so are key = at (row_after start (changes h) key) refl (are key) where
   at : (o : Option Row) → row_after start (changes h) key ≡ o → IfSome o (λ row. row.slot < slot → window_end window ≤ row.floor) → IfSome o (λ row. row.slot < slot + 1 → window_end window ≤ row.floor)
   at None there below = tt

@@ -21,11 +21,11 @@ use Rattle.std.proofs.lemmas.Bool.Decides.{eqb_tells}
 use Rattle.gor_hall.specs.Steps.{HasMarked, AllBelow}
 use Rattle.gor_cell.specs.declared.cell.Cell.{Cell}
 use Rattle.gor_cell.specs.Packed.{Packed}
-use Rattle.gor_cell.specs.Stands as cell
+use Rattle.gor_cell.specs.Stands.{CellStands, PackedStands}
 use Rattle.gor_cell.specs.Steps.{holds_key}
 use Rattle.gor_dir.specs.Listings.{Listing}
-use Rattle.gor_journal.specs.Bodies.{Kept}
-use Rattle.gor_journal.specs.Stands as log
+use Rattle.gor_journal.specs.Bodies.{KeptJournal}
+use Rattle.gor_journal.specs.Stands.{PendingStands}
 use Rattle.gor_steps.specs.declared.held.Held.{Held}
 use Rattle.gor_steps.specs.Held.{HasAll}
 use Rattle.gor_steps.specs.Views.{HasDirectory, HasSeries, HasJournal, HasEvent}
@@ -42,10 +42,10 @@ module _ (v w : View) (start : w.start ≡ v.start) where
   pub series_stays : (slot : ℕ) (c : Cell) → slot < v.start.slots → share_of w.start (slot + 2) w.at ≡ share_of v.start (slot + 2) v.at → HasSeries v slot c → HasSeries w slot c
   series_stays slot c low same stands =
       let low' : slot < w.start.slots = subst (λ (n : ℕ). slot < n) (sym slots) low in
-      subst (cell.Stands c.live) (same_slot _ _ (sym (series_at v.start slot low v.at) ∙ (sym same ∙ series_at w.start slot low' w.at))) stands
+      subst (CellStands c.live) (same_slot _ _ (sym (series_at v.start slot low v.at) ∙ (sym same ∙ series_at w.start slot low' w.at))) stands
 
-  pub journal_stays : (j : Kept) → share_of w.start (w.start.slots + 2) w.at ≡ share_of v.start (v.start.slots + 2) v.at → HasJournal v j → HasJournal w j
-  journal_stays j same stands = subst (log.Stands j.pending) (same_journal _ _ (sym (journal_at v.start v.at) ∙ (sym same ∙ journal_at w.start w.at))) stands
+  pub journal_stays : (j : KeptJournal) → share_of w.start (w.start.slots + 2) w.at ≡ share_of v.start (v.start.slots + 2) v.at → HasJournal v j → HasJournal w j
+  journal_stays j same stands = subst (PendingStands j.pending) (same_journal _ _ (sym (journal_at v.start v.at) ∙ (sym same ∙ journal_at w.start w.at))) stands
 
 -- ---- a mark
 
@@ -89,10 +89,10 @@ module _ (v w : View) (e : Event) (n : ℕ) (m : HasMarked v e n w) where
     directory_on has i stands = stands ∙ sym (directory_after has (directory_share v.start v.at) (quiet 1 ∙ directory_at v.start v.at))
 
     pub series_on : (slot : ℕ) → slot < v.start.slots → Has v.held (slot + 2) → (c : Cell) → HasSeries v slot c → HasSeries w slot c
-    series_on slot low has c stands = subst (cell.Stands c.live) (sym (series_after slot low has (series_share v.start v.at slot) (quiet (slot + 2) ∙ series_at v.start slot low v.at))) stands
+    series_on slot low has c stands = subst (CellStands c.live) (sym (series_after slot low has (series_share v.start v.at slot) (quiet (slot + 2) ∙ series_at v.start slot low v.at))) stands
 
-    pub journal_on : Has v.held (v.start.slots + 2) → (j : Kept) → HasJournal v j → HasJournal w j
-    journal_on has j stands = subst (log.Stands j.pending) (sym (journal_after has (journal_share v.start v.at) (quiet (v.start.slots + 2) ∙ journal_at v.start v.at))) stands
+    pub journal_on : Has v.held (v.start.slots + 2) → (j : KeptJournal) → HasJournal v j → HasJournal w j
+    journal_on has j stands = subst (PendingStands j.pending) (sym (journal_after has (journal_share v.start v.at) (quiet (v.start.slots + 2) ∙ journal_at v.start v.at))) stands
 
     pub all_on : (slot : ℕ) (all : Held) → HasAll v slot all → HasAll w slot all
     all_on slot all stands =
@@ -111,18 +111,18 @@ IsRowOf v slot key row = series_share v.start v.at slot ≡ Some (record { key =
 
 -- its share, for which the cell stands
 pub series_there : (v : View) (slot : ℕ) (c : Cell) (key : List ℕ) → HasSeries v slot c → holds_key key c.live ≡ true
-    → (row : Row) × IsRowOf v slot key row × cell.Stands c.live (Some (record { key = key; row = row }))
+    → (row : Row) × IsRowOf v slot key row × CellStands c.live (Some (record { key = key; row = row }))
 series_there v slot c key stands holds = at c.live (series_share v.start v.at slot) refl stands holds where
-  at : (live : Option Packed) (share : Option SeriesShare) → series_share v.start v.at slot ≡ share → cell.Stands live share → holds_key key live ≡ true
-      → (row : Row) × (share ≡ Some (record { key = key; row = row })) × cell.Stands live (Some (record { key = key; row = row }))
+  at : (live : Option Packed) (share : Option SeriesShare) → series_share v.start v.at slot ≡ share → CellStands live share → holds_key key live ≡ true
+      → (row : Row) × (share ≡ Some (record { key = key; row = row })) × CellStands live (Some (record { key = key; row = row }))
   at None share is st h = absurd (let wrong : false ≡ true = h in cc)
   at (Some s) None is st h = absurd st
   at (Some s) (Some share) is st h = by (bytes_tell key (key_of s.name)) where
     by : ((bytes_eq key (key_of s.name) ≡ true) × (key ≡ key_of s.name)) ⊎ ((bytes_eq key (key_of s.name) ≡ false) × (key ≢ key_of s.name))
-        → (row : Row) × (Some share ≡ Some (record { key = key; row = row })) × cell.StandsFor s (record { key = key; row = row })
+        → (row : Row) × (Some share ≡ Some (record { key = key; row = row })) × PackedStands s (record { key = key; row = row })
     by (inl same) =
         let own : share.key ≡ key = st.key ∙ sym same.1 in
-        (share.row, ap (λ (k : List ℕ). Some (record { key = k; row = share.row })) own, subst (λ (k : List ℕ). cell.StandsFor s (record { key = k; row = share.row })) own st)
+        (share.row, ap (λ (k : List ℕ). Some (record { key = k; row = share.row })) own, subst (λ (k : List ℕ). PackedStands s (record { key = k; row = share.row })) own st)
     by (inr apart) = absurd (let wrong : false ≡ true = sym apart.0 ∙ h in cc)
 
 pub row_here : (v : View) (slot : ℕ) (key : List ℕ) (row : Row) → slot < v.start.slots → IsRowOf v slot key row → share_of v.start (slot + 2) v.at ≡ row_share key row
@@ -157,11 +157,11 @@ pub event_gave : (v w x : View) (n a b : ℕ) (e : Event) → HasEvent v n e w �
 event_gave v w x n a b e h is = subst (HasEvent v n e) (sym is)
     (record { before = h.before; start = h.start; seen = h.seen; begins = h.begins; number = h.number; legal = h.legal; lane = h.lane; mine = h.mine })
 
-pub some_share : (live : Option Packed) (share : SeriesShare) → cell.Stands live (Some share) → IsSome live
+pub some_share : (live : Option Packed) (share : SeriesShare) → CellStands live (Some share) → IsSome live
 some_share None share stands = absurd stands
 some_share (Some s) share stands = search
 
-pub no_share : (live : Option Packed) → cell.Stands live None → live ≡ None
+pub no_share : (live : Option Packed) → CellStands live None → live ≡ None
 no_share None stands = refl
 no_share (Some s) stands = absurd stands
 

@@ -14,16 +14,16 @@ use Rattle.gor_model.specs.Shares.{SealedSeries, DeviceShare, JournalShare, OfSe
 use Rattle.gor_model.specs.SharesAfter.{device_raised, device_sealed, journal_with}
 use Rattle.gor_model.specs.Windows.{window_end}
 use Rattle.gor_rule.specs.declared.view.View.{View}
-use Rattle.gor_cell.specs.Packed.{Packed, points_of}
-use Rattle.gor_cell.specs.Stands as cells
+use Rattle.gor_cell.specs.Packed.{Packed, packed_points}
+use Rattle.gor_cell.specs.Stands.{ByShare, CellStands}
 use Rattle.gor_cell.specs.Steps.{ArePieces, after_seal}
-use Rattle.gor_dir.specs.Listings.{shown}
-use Rattle.gor_journal.specs.Stands as journals
+use Rattle.gor_dir.specs.Listings.{directory_shown}
+use Rattle.gor_journal.specs.Stands.{PendingStands}
 use Rattle.gor_hall.specs.declared.pass.Pass.{Pass}
 use Rattle.gor_hall.specs.Passes.{view, lane_of, left_of_pass}
 use Rattle.gor_steps.specs.Points.{said}
 use Rattle.gor_steps.specs.Views.{HasDirectory, HasJournal, HasEvent, SeesMore}
-use Rattle.gor_steps.specs.declared.held.Both.{Both}
+use Rattle.gor_steps.specs.declared.held.HeldPair.{HeldPair}
 use Rattle.gor_steps.specs.declared.wide.Wide.{Wide}
 use Rattle.gor_steps.specs.declared.floors.FloorAnswer.{FloorAnswer}
 use Rattle.gor_steps.specs.declared.floors.FloorAnswer.TheVariants as answer
@@ -38,11 +38,11 @@ pub record HasWide (v : View) (wide : Wide) : Type 0 where
   pub journal : HasJournal v wide.journal
 
 -- the device's share, and that it is as it was
-abbrev pub device_of : View → DeviceShare
-device_of v = device_share v.start v.at
+abbrev pub device_share_seen : View → DeviceShare
+device_share_seen v = device_share v.start v.at
 
 abbrev pub KeepsDevice : View → View → Type 0
-KeepsDevice v w = device_of w ≡ device_of v
+KeepsDevice v w = device_share_seen w ≡ device_share_seen v
 
 -- ---- a Floor
 
@@ -56,8 +56,8 @@ floor_event lane window a = said lane None (call.Floor window) (floor_reply a)
 
 -- the answer of a Floor, by the directory and the journal
 abbrev pub FloorTold : ℕ → Wide → FloorAnswer → Type 0
-FloorTold window wide (answer.Floor floor) = (floor ≡ window_end window) × (wide.journal.pending.stopped ≡ false) × ((shown wide.directory).floor < window_end window)
-FloorTold window wide (answer.Sealed floor) = (floor ≡ (shown wide.directory).floor) × (wide.journal.pending.stopped ≡ false) × (window_end window ≤ (shown wide.directory).floor)
+FloorTold window wide (answer.Floor floor) = (floor ≡ window_end window) × (wide.journal.pending.stopped ≡ false) × ((directory_shown wide.directory).floor < window_end window)
+FloorTold window wide (answer.Sealed floor) = (floor ≡ (directory_shown wide.directory).floor) × (wide.journal.pending.stopped ≡ false) × (window_end window ≤ (directory_shown wide.directory).floor)
 FloorTold window wide answer.Stopped = wide.journal.pending.stopped ≡ true
 
 -- it changes nothing
@@ -73,8 +73,8 @@ FloorsDevice window answer.Stopped old new = (old.stopped ≡ true) × (new ≡ 
 
 -- the shard runs, and its floor has reached the end of the window, by the shares that are held and by what has been seen
 pub record HasRaised (window : ℕ) (v : View) : Type 0 where
-  pub runs : (device_of v).stopped ≡ false
-  pub reached : window_end window ≤ (device_of v).floor
+  pub runs : (device_share_seen v).stopped ≡ false
+  pub reached : window_end window ≤ (device_share_seen v).floor
   pub seen : window_end window ≤ shard_floor v.start (changes v.seen)
 
 abbrev pub RaisesIfFloor : ℕ → FloorAnswer → View → Type 0
@@ -92,25 +92,25 @@ is_open_to window None = false
 is_open_to window (Some s) = nat_lt s.floor (window_end window)
 
 -- the two stand for what they did
-pub record IsSameBoth (old new : Both) : Type 0 where
+pub record IsSameBoth (old new : HeldPair) : Type 0 where
   pub cell : new.cell.live ≡ old.cell.live
   pub journal : new.journal.pending ≡ old.journal.pending
 
 -- the series is sealed in both, and its kept blocks of the windows from `first` on are copied
-pub record SealsIn (first window : ℕ) (old : Both) (made : Made) : Type 0 where
+pub record SealsIn (first window : ℕ) (old : HeldPair) (made : Made) : Type 0 where
   pub told : IfSome old.cell.live (λ s. (made.name ≡ s.name) × (made.uid ≡ s.uid))
-  pub cell : cells.ByShare old.cell.live (λ share. cells.Stands made.both.cell.live (Some (after_seal window share)))
-  pub pieces : IfSome made.both.cell.live (λ s. ArePieces first window (points_of s) made.sealed.blocks.items)
-  pub journal : (key : List ℕ) (share : JournalShare) → journals.Stands old.journal.pending share
-      → journals.Stands made.both.journal.pending (journal_with (change.Seal key window) (OfSeries made.uid) share)
+  pub cell : ByShare old.cell.live (λ share. CellStands made.both.cell.live (Some (after_seal window share)))
+  pub pieces : IfSome made.both.cell.live (λ s. ArePieces first window (packed_points s) made.sealed.blocks.items)
+  pub journal : (key : List ℕ) (share : JournalShare) → PendingStands old.journal.pending share
+      → PendingStands made.both.journal.pending (journal_with (change.Seal key window) (OfSeries made.uid) share)
 
 -- each series that is there in the slots below one is sealed up to the window, after these changes
-abbrev pub AreSealed : Start → List Change → ℕ → ℕ → Type 0
-AreSealed start C window slot = (key : List ℕ) → IfSome (row_after start C key) (λ row. row.slot < slot → window_end window ≤ row.floor)
+abbrev pub SeriesAreSealed : Start → List Change → ℕ → ℕ → Type 0
+SeriesAreSealed start C window slot = (key : List ℕ) → IfSome (row_after start C key) (λ row. row.slot < slot → window_end window ≤ row.floor)
 
 -- and so of what a pass has seen
 abbrev pub AreSealedBelow : ℕ → ℕ → View → Type 0
-AreSealedBelow window slot v = AreSealed v.start (changes v.seen) window slot
+AreSealedBelow window slot v = SeriesAreSealed v.start (changes v.seen) window slot
 
 -- the series of the slot was sealed by one event, and copies of its kept blocks of the windows from `first` on were made
 pub record Seals (old : Pass) (slot first window : ℕ) (new : Pass) (r : SealReply) : Type 0 where
@@ -119,7 +119,7 @@ pub record Seals (old : Pass) (slot first window : ℕ) (new : Pass) (r : SealRe
   pub series : SealedSeries
   pub slot_is : series.slot ≡ slot
   pub uid_is : series.uid ≡ r.uid
-  pub device : device_of (view new) ≡ device_sealed series (device_of (view old))
+  pub device : device_share_seen (view new) ≡ device_sealed series (device_share_seen (view old))
   pub pieces : ArePieces first window series.points r.sealed.blocks.items
 
 -- no event was made

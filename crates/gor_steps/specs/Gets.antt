@@ -10,8 +10,8 @@ use Rattle.gor_hall.specs.declared.pass.Pass.{Pass}
 use Rattle.gor_hall.specs.Passes.{moves}
 use Rattle.gor_cell.specs.declared.copied.Copied.{Copied}
 use Rattle.gor_cell.specs.Steps.{copied_points}
-use Rattle.gor_dir.specs.Listings.{Listing, shown}
-use Rattle.gor_steps.specs.Points.{said, Makes, MakesNone}
+use Rattle.gor_dir.specs.Listings.{Listing, directory_shown}
+use Rattle.gor_steps.specs.Points.{said, MakesOne, MakesNone}
 use Rattle.gor_steps.specs.declared.reads.Wanted.{Wanted}
 use Rattle.gor_steps.specs.declared.reads.Read.{Read}
 use Rattle.gor_steps.specs.declared.reads.Found.{Found}
@@ -33,16 +33,16 @@ missed_event lane wanted = said lane None (get_call wanted) reply.Absent
 
 -- the slot of a key, by the directory
 abbrev pub slot_of : Listing → List ℕ → Option ℕ
-slot_of directory key = option_map (λ row. row.slot) ((shown directory).entry key)
+slot_of directory key = option_map (λ row. row.slot) ((directory_shown directory).entry key)
 
 -- the series was read
-abbrev pub Reads : Pass → Wanted → Pass → Read → Type 0
-Reads old wanted new read = Makes old read.number (get_call wanted) (reply.Points (copied_points read.copied)) new
+abbrev pub ReadsSeries : Pass → Wanted → Pass → Read → Type 0
+ReadsSeries old wanted new read = MakesOne old read.number (get_call wanted) (reply.Points (copied_points read.copied)) new
 
 -- the first look-up gave a slot and made no event, or found that the key is absent
 abbrev pub LooksUp : ℕ → Pass → Wanted → Pass → Lookup → Type 0
 LooksUp slots old wanted new (lookup.At slot) = (slot < slots) × MakesNone old new
-LooksUp slots old wanted new (lookup.Missed n) = Makes old n (get_call wanted) reply.Absent new
+LooksUp slots old wanted new (lookup.Missed n) = MakesOne old n (get_call wanted) reply.Absent new
 
 abbrev pub IsNoMiss : Lookup → Type 0
 IsNoMiss (lookup.At slot) = ⊤
@@ -51,12 +51,12 @@ IsNoMiss (lookup.Missed n) = ⊥
 -- the series was read, if it had the key
 abbrev pub ReadsIfThere : Pass → Wanted → Pass → Option Read → Type 0
 ReadsIfThere old wanted new None = MakesNone old new
-ReadsIfThere old wanted new (Some read) = Reads old wanted new read
+ReadsIfThere old wanted new (Some read) = ReadsSeries old wanted new read
 
 -- the get was answered
-abbrev pub Answers : Pass → Wanted → Pass → Found → Type 0
-Answers old wanted new (found.Read read) = Reads old wanted new read
-Answers old wanted new (found.Missed n) = Makes old n (get_call wanted) reply.Absent new
+abbrev pub AnswersGet : Pass → Wanted → Pass → Found → Type 0
+AnswersGet old wanted new (found.Read read) = ReadsSeries old wanted new read
+AnswersGet old wanted new (found.Missed n) = MakesOne old n (get_call wanted) reply.Absent new
 
 -- the directory was kept over a series, if its key is there
 abbrev pub KeepsDirectory : ℕ → Pass → Pass → Type 0

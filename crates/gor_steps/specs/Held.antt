@@ -4,8 +4,8 @@ use Rattle.gor_model.specs.declared.event.Change.TheVariants as change
 use Rattle.gor_model.specs.Shares.{JournalShare, Frees}
 use Rattle.gor_model.specs.SharesAfter.{directory_without, journal_with}
 use Rattle.gor_rule.specs.declared.view.View.{View}
-use Rattle.gor_dir.specs.Listings.{shown}
-use Rattle.gor_journal.specs.Stands as journal
+use Rattle.gor_dir.specs.Listings.{directory_shown}
+use Rattle.gor_journal.specs.Stands.{PendingStands}
 use Rattle.gor_steps.specs.Views.{HasDirectory, HasSeries, HasJournal}
 use Rattle.gor_steps.specs.declared.held.Held.{Held}
 
@@ -19,6 +19,6 @@ pub record HasAll (v : View) (slot : ℕ) (all : Held) : Type 0 where
 
 -- the series of a key has ended
 pub record EndsSeries (key : List ℕ) (slot : ℕ) (old new : Held) : Type 0 where
-  pub directory : shown new.directory ≡ directory_without key slot (shown old.directory)
+  pub directory : directory_shown new.directory ≡ directory_without key slot (directory_shown old.directory)
   pub cell : new.cell.live ≡ None
-  pub journal : (share : JournalShare) → journal.Stands old.journal.pending share → journal.Stands new.journal.pending (journal_with (change.Del key) (Frees slot) share)
+  pub journal : (share : JournalShare) → PendingStands old.journal.pending share → PendingStands new.journal.pending (journal_with (change.Del key) (Frees slot) share)

@@ -19,10 +19,10 @@ IsJournal slots o = o ≡ slots + 2
 -- ---- some moves, the newest first
 
 -- after them an object of this kind is held
-abbrev pub Holds : (ℕ → Type 0) → List Move → Type 0
-Holds Is [] = ⊥
-Holds Is (Took o ∷ older) = Is o ⊎ Holds Is older
-Holds Is (Gave o ∷ older) = ¬ Is o × Holds Is older
+abbrev pub HoldsKind : (ℕ → Type 0) → List Move → Type 0
+HoldsKind Is [] = ⊥
+HoldsKind Is (Took o ∷ older) = Is o ⊎ HoldsKind Is older
+HoldsKind Is (Gave o ∷ older) = ¬ Is o × HoldsKind Is older
 
 -- one of this kind was given back among them
 abbrev pub HasGiven : (ℕ → Type 0) → List Move → Type 0
@@ -40,8 +40,8 @@ EachTake Good (Gave o ∷ older) = EachTake Good older
 -- given back, or where the call is one that may.
 pub record TakesApart (slots : ℕ) (MayTake : ℕ → Type 0) (MayKeep : Type 0) (these : List Move) : Type 0 where
   pub only : EachTake (λ o older. MayTake o) these
-  pub one : EachTake (λ o older. IsSeries slots o → ¬ Holds (IsSeries slots) older) these
-  pub apart : EachTake (λ o older. IsSeries slots o → Holds IsDirectory older → HasGiven (IsSeries slots) older ⊎ MayKeep) these
+  pub one : EachTake (λ o older. IsSeries slots o → ¬ HoldsKind (IsSeries slots) older) these
+  pub apart : EachTake (λ o older. IsSeries slots o → HoldsKind IsDirectory older → HasGiven (IsSeries slots) older ⊎ MayKeep) these
 
 -- the moves that a call added to its pass
 abbrev pub AddsMoves : Pass → Pass → (List Move → Type 0) → Type 0

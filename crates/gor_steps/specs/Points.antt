@@ -35,7 +35,7 @@ abbrev pub said : ℕ → Option ℕ → Call → Reply → Event
 said lane slot c r = record { lane = lane; slot = slot; call = c; reply = r }
 
 -- the call made one event, with this number and this reply
-pub record Makes (old : Pass) (n : ℕ) (c : Call) (r : Reply) (new : Pass) : Type 0 where
+pub record MakesOne (old : Pass) (n : ℕ) (c : Call) (r : Reply) (new : Pass) : Type 0 where
   pub slot : Option ℕ
   pub event : HasEvent (view old) n (said (lane_of old) slot c r) (view new)
   pub left : left_of_pass new + 1 ≡ left_of_pass old
@@ -54,4 +54,4 @@ get_reply read.Absent = reply.Absent
 -- a refused range makes no event, and changes nothing; where memory is wanting for the copied blocks the event stands
 abbrev pub GetRefused : Pass → List ℕ → ℕ → ℕ → Pass → GetFault → Type 0
 GetRefused old key from to new (get.Range first last) = (first ≡ from) × (last ≡ to) × (to < from) × (new ≡ old)
-GetRefused old key from to new get.NoMemory = (from ≤ to) × (MakesNone old new ⊎ ((n : ℕ) × (points : List Point) × Makes old n (call.Get key from to) (reply.Points points) new))
+GetRefused old key from to new get.NoMemory = (from ≤ to) × (MakesNone old new ⊎ ((n : ℕ) × (points : List Point) × MakesOne old n (call.Get key from to) (reply.Points points) new))

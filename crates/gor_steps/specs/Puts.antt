@@ -11,15 +11,15 @@ use Rattle.gor_model.specs.AnswersByShares.{put_there_by}
 use Rattle.gor_model.specs.Names.{key_of}
 use Rattle.gor_model.specs.Objects.{Has}
 use Rattle.gor_model.specs.Shares.{Besides, JournalShare, SeriesShare, OfSeries, Begins}
-use Rattle.gor_model.specs.SharesAfter.{journal_with, pushed, begun, directory_begun}
+use Rattle.gor_model.specs.SharesAfter.{journal_with, point_pushed, begun, directory_begun}
 use Rattle.gor_rule.specs.declared.view.View.{View}
-use Rattle.gor_cell.specs.Stands as cells
-use Rattle.gor_dir.specs.Listings.{shown}
-use Rattle.gor_journal.specs.Stands as journals
+use Rattle.gor_cell.specs.Stands.{CellStands}
+use Rattle.gor_dir.specs.Listings.{directory_shown}
+use Rattle.gor_journal.specs.Stands.{PendingStands}
 use Rattle.gor_hall.specs.declared.pass.Pass.{Pass}
-use Rattle.gor_steps.specs.Points.{said, Makes, MakesNone}
+use Rattle.gor_steps.specs.Points.{said, MakesOne, MakesNone}
 use Rattle.gor_steps.specs.Views.{HasSeries, HasJournal}
-use Rattle.gor_steps.specs.declared.held.Both.{Both}
+use Rattle.gor_steps.specs.declared.held.HeldPair.{HeldPair}
 use Rattle.gor_steps.specs.declared.held.Held.{Held}
 use Rattle.gor_steps.specs.declared.puts.NewPoint.{NewPoint}
 use Rattle.gor_model.specs.declared.start.Move.TheVariants.{Took, Gave}
@@ -52,7 +52,7 @@ put_change p = change.Put p.name.now (key_of p.name.now) p.time p.word
 -- ---- a series that is there
 
 -- the series and the journal are held, and each stands for its share
-pub record HasBoth (v : View) (slot : ℕ) (both : Both) : Type 0 where
+pub record HasBoth (v : View) (slot : ℕ) (both : HeldPair) : Type 0 where
   pub low : slot < v.start.slots
   pub held_series : Has v.held (slot + 2)
   pub held_journal : Has v.held (v.start.slots + 2)
@@ -61,7 +61,7 @@ pub record HasBoth (v : View) (slot : ℕ) (both : Both) : Type 0 where
 
 -- the shares after a put, by its answer
 abbrev pub series_put : PutAnswer → NewPoint → SeriesShare → SeriesShare
-series_put (answer.Stored due) p share = record { key = share.key; row = pushed (record { time = p.time; word = p.word }) share.row }
+series_put (answer.Stored due) p share = record { key = share.key; row = point_pushed (record { time = p.time; word = p.word }) share.row }
 series_put _ p share = share
 
 abbrev pub journal_put : PutAnswer → Change → Besides → JournalShare → JournalShare
@@ -69,17 +69,17 @@ journal_put (answer.Stored due) c besides share = journal_with c besides share
 journal_put _ c besides share = share
 
 -- the put has this answer, and the two are those after it
-pub record PutsIn (p : NewPoint) (old new : Both) (a : PutAnswer) : Type 0 where
-  pub told : (share : SeriesShare) (log : JournalShare) → cells.Stands old.cell.live (Some share) → journals.Stands old.journal.pending log → put_there_by log share p.time ≡ put_reply a
-  pub cell : (share : SeriesShare) → cells.Stands old.cell.live (Some share) → cells.Stands new.cell.live (Some (series_put a p share))
-  pub journal : (share : SeriesShare) (log : JournalShare) → cells.Stands old.cell.live (Some share) → journals.Stands old.journal.pending log
-      → journals.Stands new.journal.pending (journal_put a (put_change p) (OfSeries share.row.uid) log)
+pub record PutsIn (p : NewPoint) (old new : HeldPair) (a : PutAnswer) : Type 0 where
+  pub told : (share : SeriesShare) (log : JournalShare) → CellStands old.cell.live (Some share) → PendingStands old.journal.pending log → put_there_by log share p.time ≡ put_reply a
+  pub cell : (share : SeriesShare) → CellStands old.cell.live (Some share) → CellStands new.cell.live (Some (series_put a p share))
+  pub journal : (share : SeriesShare) (log : JournalShare) → CellStands old.cell.live (Some share) → PendingStands old.journal.pending log
+      → PendingStands new.journal.pending (journal_put a (put_change p) (OfSeries share.row.uid) log)
 
 -- ---- an absent key
 
 -- a put of an absent key is refused by the floor, or because no slot is free
-abbrev pub IsRefused : ℕ → ℕ → List ℕ → Type 0
-IsRefused time floor free = (time < floor) ⊎ (free ≡ [])
+abbrev pub PutIsRefused : ℕ → ℕ → List ℕ → Type 0
+PutIsRefused time floor free = (time < floor) ⊎ (free ≡ [])
 
 -- an answer of a put that changes nothing
 abbrev pub IsQuiet : PutAnswer → Type 0
@@ -88,22 +88,22 @@ IsQuiet _ = ⊤
 
 -- the three stand for what they did
 pub record IsSameHeld (old new : Held) : Type 0 where
-  pub directory : shown new.directory ≡ shown old.directory
+  pub directory : directory_shown new.directory ≡ directory_shown old.directory
   pub cell : new.cell.live ≡ old.cell.live
   pub journal : new.journal.pending ≡ old.journal.pending
 
 -- the series begins with the point, in all three
 pub record BeginsIn (p : NewPoint) (slot : ℕ) (old new : Held) : Type 0 where
-  pub directory : (next : ℕ) → next ≡ old.journal.pending.next → shown new.directory ≡ directory_begun p.name.now (key_of p.name.now) next (shown old.directory)
-  pub cell : (floor next : ℕ) → floor ≡ (shown old.directory).floor → next ≡ old.journal.pending.next
-      → cells.Stands new.cell.live (Some (record { key = key_of p.name.now; row = begun p.name.now slot next floor (record { time = p.time; word = p.word }) }))
-  pub journal : (floor : ℕ) (log : JournalShare) → floor ≡ (shown old.directory).floor → journals.Stands old.journal.pending log
-      → journals.Stands new.journal.pending (journal_with (put_change p) (Begins log.next slot floor) log)
+  pub directory : (next : ℕ) → next ≡ old.journal.pending.next → directory_shown new.directory ≡ directory_begun p.name.now (key_of p.name.now) next (directory_shown old.directory)
+  pub cell : (floor next : ℕ) → floor ≡ (directory_shown old.directory).floor → next ≡ old.journal.pending.next
+      → CellStands new.cell.live (Some (record { key = key_of p.name.now; row = begun p.name.now slot next floor (record { time = p.time; word = p.word }) }))
+  pub journal : (floor : ℕ) (log : JournalShare) → floor ≡ (directory_shown old.directory).floor → PendingStands old.journal.pending log
+      → PendingStands new.journal.pending (journal_with (put_change p) (Begins log.next slot floor) log)
 
 -- ---- the answers of the steps
 
 abbrev pub PutMakes : Pass → NewPoint → Pass → ℕ → PutAnswer → Type 0
-PutMakes old p new n a = Makes old n (put_call p) (put_reply a) new
+PutMakes old p new n a = MakesOne old n (put_call p) (put_reply a) new
 
 -- the put was answered, if the series had its key
 abbrev pub PutsIfThere : Pass → NewPoint → Pass → Option PutReply → Type 0

@@ -10,22 +10,21 @@ use Rattle.gor_model.specs.Objects.{Has, IsBeginning, share_of}
 use Rattle.gor_rule.specs.declared.view.View.{View}
 use Rattle.gor_rule.specs.Rule.{numbers}
 use Rattle.gor_cell.specs.declared.cell.Cell.{Cell}
-use Rattle.gor_cell.specs.Stands as cell
-use Rattle.gor_dir.specs.Listings.{Listing}
-use Rattle.gor_dir.specs.Listings as directory
-use Rattle.gor_journal.specs.Bodies.{Kept}
-use Rattle.gor_journal.specs.Stands as journal
+use Rattle.gor_cell.specs.Stands.{CellStands}
+use Rattle.gor_dir.specs.Listings.{Listing, ListingStands}
+use Rattle.gor_journal.specs.Bodies.{KeptJournal}
+use Rattle.gor_journal.specs.Stands.{PendingStands}
 
 -- ---- what a held part stands for: its share of the history after which the shares of the held objects are
 
 abbrev pub HasDirectory : View → Listing → Type 0
-HasDirectory v index = directory.Stands index (directory_share v.start v.at)
+HasDirectory v index = ListingStands index (directory_share v.start v.at)
 
 abbrev pub HasSeries : View → ℕ → Cell → Type 0
-HasSeries v slot series = cell.Stands series.live (series_share v.start v.at slot)
+HasSeries v slot series = CellStands series.live (series_share v.start v.at slot)
 
-abbrev pub HasJournal : View → Kept → Type 0
-HasJournal v log = journal.Stands log.pending (journal_share v.start v.at)
+abbrev pub HasJournal : View → KeptJournal → Type 0
+HasJournal v log = PendingStands log.pending (journal_share v.start v.at)
 
 -- ---- steps
 

@@ -7,15 +7,15 @@ ghost use Rattle.gor_model.specs.Names.{key_of};
 ghost use Rattle.gor_model.specs.Shares.{JournalShare};
 ghost use Rattle.gor_model.specs.Windows.{greatest_time, slots_of_a_shard};
 ghost use Rattle.gor_model.specs.declared.unit.Unit.TheVariants.{Second};
-ghost use Rattle.gor_keys.specs.Spelling.{IsFloor};
-ghost use Rattle.gor_cell.specs.Stands.{Stands};
-ghost use Rattle.gor_dir.specs.Listings.{shown};
+ghost use Rattle.gor_keys.specs.Spelling.{IsFloorInUnit};
+ghost use Rattle.gor_cell.specs.Stands.{CellStands};
+ghost use Rattle.gor_dir.specs.Listings.{directory_shown};
 ghost use Rattle.gor_hall.specs.Halls.{IsPassOf, start_of};
 ghost use Rattle.gor_hall.specs.Passes.{view, held, lane_of, left_of_pass, moves};
 ghost use Rattle.gor_steps.specs.Gets.{slot_of};
 ghost use Rattle.gor_steps.specs.Held.{HasAll};
 ghost use Rattle.gor_steps.specs.Points.{IsBack, MakesNone};
-ghost use Rattle.gor_steps.specs.Puts.{BeginsIn, IsRefused, IsSameHeld, IsQuiet, BeginsOrStops, PutMakes, PutsAbsent, KeepsAll, put_reply, series_begun};
+ghost use Rattle.gor_steps.specs.Puts.{BeginsIn, PutIsRefused, IsSameHeld, IsQuiet, BeginsOrStops, PutMakes, PutsAbsent, KeepsAll, put_reply, series_begun};
 ghost use Rattle.gor_steps.specs.Views.{HasDirectory, HasJournal, IsSound};
 
 use crate::held::{Held, give_all, take_more};
@@ -33,8 +33,8 @@ use std::sync::Wait;
 
 // What a put of an absent key is answered that the floor refuses, or that finds no free slot.
 fn refusal(directory: &Directory, journal: &Journal, slots: u32, point: &NewPoint) -> PutAnswer
-    requires { IsRefused point.now.time (shown directory.now).floor (shown directory.now).free }
-    ensures told { (log : JournalShare) → log.stopped ≡ journal.now.pending.stopped → put_absent_by slots (shown directory.now) log point.now.time ≡ put_reply result }
+    requires { PutIsRefused point.now.time (directory_shown directory.now).floor (directory_shown directory.now).free }
+    ensures told { (log : JournalShare) → log.stopped ≡ journal.now.pending.stopped → put_absent_by slots (directory_shown directory.now) log point.now.time ≡ put_reply result }
     ensures quiet { IsQuiet result }
 {
     if journal.stopped() {
@@ -60,7 +60,7 @@ fn refuse<V: Parts<K>, K>(
     requires index { HasDirectory (view pass.old) directory }
     requires log { HasJournal (view pass.old) journal }
     requires absent { slot_of directory (key_of point.now.name.now) ≡ None }
-    requires refused { IsRefused point.now.time (shown directory).floor (shown directory).free }
+    requires refused { PutIsRefused point.now.time (directory_shown directory).floor (directory_shown directory).free }
     requires point { MayPut point.now.name.now (key_of point.now.name.now) point.now.time }
     ensures pass { IsBack shard.now pass.old pass.new }
     ensures event { PutMakes pass.old point.now pass.new result.number result.answer }
@@ -126,7 +126,7 @@ fn begin_cell(cell: Cell, name: Name, uid: u64, floor: u64, point: &NewPoint) ->
     requires vacant { cell.live ≡ None }
     requires open { floor ≤ point.now.time }
     requires timely { point.now.time ≤ greatest_time }
-    ensures ok { IfOk result (λ c. (slot : ℕ) → Stands c.live (Some (series_begun name slot uid floor point.now))) }
+    ensures ok { IfOk result (λ c. (slot : ℕ) → CellStands c.live (Some (series_begun name slot uid floor point.now))) }
     ensures err { IfErr result (λ c. c.live ≡ None) }
 {
     let mut cell = cell;
@@ -160,14 +160,14 @@ fn reserve_in(all: &mut Held, slot: u32, point: &NewPoint) -> Result<(Name, Name
 
 // Begins the series in all three. Where memory is wanting all stand for what they did.
 fn begin_in(all: Held, slot: u32, point: &NewPoint) -> Result<Held, Held>
-    requires absent { (shown all.directory).entry (key_of point.now.name.now) ≡ None }
-    requires free { slice_get (shown all.directory).free 0 ≡ Some slot }
+    requires absent { (directory_shown all.directory).entry (key_of point.now.name.now) ≡ None }
+    requires free { slice_get (directory_shown all.directory).free 0 ≡ Some slot }
     requires vacant { all.cell.live ≡ None }
-    requires open { (shown all.directory).floor ≤ point.now.time }
+    requires open { (directory_shown all.directory).floor ≤ point.now.time }
     requires timely { point.now.time ≤ greatest_time }
     requires running { all.journal.pending.stopped ≡ false }
     requires numbers { (all.journal.pending.next < 2 ^ 62 + 2 ^ 45) × (all.journal.pending.buffered < 2 ^ 50) }
-    requires limits { (slot < slots_of_a_shard) × IsFloor Second (shown all.directory).floor }
+    requires limits { (slot < slots_of_a_shard) × IsFloorInUnit Second (directory_shown all.directory).floor }
     ensures ok { IfOk result (BeginsIn point.now slot all) }
     ensures err { IfErr result (IsSameHeld all) }
 {
@@ -220,8 +220,8 @@ fn begin<V: Parts<K>, K>(
     requires slot { slot < (start_of shard.now).slots }
     requires stands { HasAll (view pass.old) slot all }
     requires absent { slot_of all.directory (key_of point.now.name.now) ≡ None }
-    requires free { slice_get (shown all.directory).free 0 ≡ Some slot }
-    requires open { (shown all.directory).floor ≤ point.now.time }
+    requires free { slice_get (directory_shown all.directory).free 0 ≡ Some slot }
+    requires open { (directory_shown all.directory).floor ≤ point.now.time }
     requires running { all.journal.pending.stopped ≡ false }
     requires point { MayPut point.now.name.now (key_of point.now.name.now) point.now.time }
     ensures pass { IsBack shard.now pass.old pass.new }
@@ -287,8 +287,8 @@ pub(crate) fn put_absent<V: Parts<K>, K, R: Wait>(
 
 // The slot that a series would begin in; None where the floor refuses it, or no slot is free.
 fn free_slot(directory: &Directory, point: &NewPoint) -> Option<u32>
-    ensures some { IfSome result (λ slot. (slice_get (shown directory.now).free 0 ≡ Some slot) × ((shown directory.now).floor ≤ point.now.time)) }
-    ensures none { IfNone result (IsRefused point.now.time (shown directory.now).floor (shown directory.now).free) }
+    ensures some { IfSome result (λ slot. (slice_get (directory_shown directory.now).free 0 ≡ Some slot) × ((directory_shown directory.now).floor ≤ point.now.time)) }
+    ensures none { IfNone result (PutIsRefused point.now.time (directory_shown directory.now).floor (directory_shown directory.now).free) }
 {
     if point.time < directory.floor() {
         return None;

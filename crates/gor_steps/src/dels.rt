@@ -5,13 +5,13 @@ ghost use Rattle.gor_model.specs.Names.{key_of};
 ghost use Rattle.gor_model.specs.Windows.{slots_of_a_shard};
 ghost use Rattle.gor_hall.specs.Halls.{IsPassOf, start_of};
 ghost use Rattle.gor_hall.specs.Passes.{view, held, lane_of, left_of_pass};
-ghost use Rattle.gor_dir.specs.Listings.{shown};
+ghost use Rattle.gor_dir.specs.Listings.{directory_shown};
 ghost use Rattle.gor_journal.specs.Entries.{key_need, log_need};
 ghost use Rattle.gor_steps.specs.Dels.{del_reply, absent_answer};
 ghost use Rattle.gor_steps.specs.Gets.{slot_of};
 ghost use Rattle.gor_steps.specs.Held.{HasAll, EndsSeries};
 ghost use Rattle.gor_steps.specs.Views.{HasDirectory, HasNone, HasSeries, HasJournal, IsSound};
-ghost use Rattle.gor_steps.specs.Points.{IsReady, IsBack, Makes, MakesNone};
+ghost use Rattle.gor_steps.specs.Points.{IsReady, IsBack, MakesOne, MakesNone};
 
 use crate::held::{Held, give_all, take_more};
 use crate::kinds::Parts;
@@ -94,7 +94,7 @@ fn refuse<V: Parts<K>, K>(
     requires log { HasJournal (view pass.old) journal }
     requires absent { slot_of directory (key_of name.now) ≡ None }
     ensures pass { IsBack shard.now pass.old pass.new }
-    ensures event { Makes pass.old result.number (call.Del (key_of name.now)) (del_reply result.answer) pass.new }
+    ensures event { MakesOne pass.old result.number (call.Del (key_of name.now)) (del_reply result.answer) pass.new }
 {
     let answer = answer_absent(&journal);
     let deleted = Deleted {
@@ -124,7 +124,7 @@ fn stop<V: Parts<K>, K>(
     requires there { slot_of all.directory (key_of name.now) ≡ Some slot }
     requires stopped { all.journal.pending.stopped ≡ true }
     ensures pass { IsBack shard.now pass.old pass.new }
-    ensures event { Makes pass.old result.number (call.Del (key_of name.now)) (del_reply result.answer) pass.new }
+    ensures event { MakesOne pass.old result.number (call.Del (key_of name.now)) (del_reply result.answer) pass.new }
 {
     let answer = DelAnswer::Stopped;
     let deleted = Deleted {
@@ -171,7 +171,7 @@ fn end<V: Parts<K>, K>(
     requires running { all.journal.pending.stopped ≡ false }
     requires room { (23 ≤ all.journal.key_room) × (26 ≤ all.journal.log_room) }
     ensures pass { IsBack shard.now pass.old pass.new }
-    ensures event { Makes pass.old result.number (call.Del (key_of name.now)) (del_reply result.answer) pass.new }
+    ensures event { MakesOne pass.old result.number (call.Del (key_of name.now)) (del_reply result.answer) pass.new }
 {
     let answer = DelAnswer::Gone;
     let deleted = Deleted {
@@ -200,7 +200,7 @@ fn del_there<V: Parts<K>, K>(
     requires stands { HasAll (view pass.old) slot all }
     requires there { slot_of all.directory (key_of name.now) ≡ Some slot }
     ensures pass { IsBack shard.now pass.old pass.new }
-    ensures event { IfOk result (λ r. Makes pass.old r.number (call.Del (key_of name.now)) (del_reply r.answer) pass.new) }
+    ensures event { IfOk result (λ r. MakesOne pass.old r.number (call.Del (key_of name.now)) (del_reply r.answer) pass.new) }
     ensures none { OnErr result (MakesNone pass.old pass.new) }
 {
     if all.journal.stopped() {
@@ -228,7 +228,7 @@ pub fn del<V: Parts<K>, K, R: Wait>(
 ) -> Result<DelReply, DelFault>
     requires pass { IsReady shard.now pass.old }
     ensures pass { IsBack shard.now pass.old pass.new }
-    ensures event { IfOk result (λ r. Makes pass.old r.number (call.Del (key_of name.now)) (del_reply r.answer) pass.new) }
+    ensures event { IfOk result (λ r. MakesOne pass.old r.number (call.Del (key_of name.now)) (del_reply r.answer) pass.new) }
     ensures none { OnErr result (MakesNone pass.old pass.new) }
 {
     let directory = take_directory(rt, shard, pass);

@@ -5,13 +5,13 @@ ghost use Rattle.gor_model.specs.declared.event.Change.TheVariants as change;
 ghost use Rattle.gor_model.specs.Shares.{JournalShare, Nothing};
 ghost use Rattle.gor_model.specs.SharesAfter.{directory_raised, journal_with};
 ghost use Rattle.gor_model.specs.Windows.{last_window, window_end};
-ghost use Rattle.gor_dir.specs.Listings.{shown};
-ghost use Rattle.gor_journal.specs.Stands.{Stands};
+ghost use Rattle.gor_dir.specs.Listings.{directory_shown};
+ghost use Rattle.gor_journal.specs.Stands.{PendingStands};
 ghost use Rattle.gor_hall.specs.Halls.{IsPassOf};
 ghost use Rattle.gor_hall.specs.Passes.{view, held, lane_of, left_of_pass};
-ghost use Rattle.gor_steps.specs.Finishes.{HasWide, KeepsDevice, FloorTold, FloorsDevice, RaisesIfFloor, IsQuietFloor, device_of, floor_reply};
+ghost use Rattle.gor_steps.specs.Finishes.{HasWide, KeepsDevice, FloorTold, FloorsDevice, RaisesIfFloor, IsQuietFloor, device_share_seen, floor_reply};
 ghost use Rattle.gor_steps.specs.declared.floors.FloorAnswer.TheVariants as floor_;
-ghost use Rattle.gor_steps.specs.Points.{Makes, MakesNone};
+ghost use Rattle.gor_steps.specs.Points.{MakesOne, MakesNone};
 ghost use Rattle.gor_steps.specs.Views.{IsSound};
 
 use crate::kinds::Parts;
@@ -87,8 +87,8 @@ fn refuse_floor<V: Parts<K>, K>(
     requires told { FloorTold window wide answer }
     requires quiet { IsQuietFloor answer }
     ensures pass { IsPassOf shard.now pass.new × (held pass.new ≡ 0 ∷ []) × (lane_of pass.new ≡ lane_of pass.old) }
-    ensures event { Makes pass.old result.number (call.Floor window) (floor_reply result.answer) pass.new }
-    ensures device { FloorsDevice window result.answer (device_of (view pass.old)) (device_of (view pass.new)) }
+    ensures event { MakesOne pass.old result.number (call.Floor window) (floor_reply result.answer) pass.new }
+    ensures device { FloorsDevice window result.answer (device_share_seen (view pass.old)) (device_share_seen (view pass.new)) }
     ensures raised { RaisesIfFloor window result.answer (view pass.new) }
 {
     let floored = Floored {
@@ -107,8 +107,8 @@ fn raise_in(wide: Wide, window: u32) -> Wide
     requires running { wide.journal.pending.stopped ≡ false }
     requires room { 31 ≤ wide.journal.log_room }
     requires numbers { (wide.journal.pending.next < 2 ^ 62 + 2 ^ 45) × (wide.journal.pending.buffered < 2 ^ 50) }
-    ensures directory { shown result.directory ≡ directory_raised (window_end window) (shown wide.directory) }
-    ensures journal { (share : JournalShare) → Stands wide.journal.pending share → Stands result.journal.pending (journal_with (change.Floor window) Nothing share) }
+    ensures directory { directory_shown result.directory ≡ directory_raised (window_end window) (directory_shown wide.directory) }
+    ensures journal { (share : JournalShare) → PendingStands wide.journal.pending share → PendingStands result.journal.pending (journal_with (change.Floor window) Nothing share) }
 {
     let mut wide = wide;
     wide.directory.raise_floor(window);
@@ -131,8 +131,8 @@ fn raise<V: Parts<K>, K>(
     requires told { FloorTold window wide (floor_.Floor floor) }
     requires room { 31 ≤ wide.journal.log_room }
     ensures pass { IsPassOf shard.now pass.new × (held pass.new ≡ 0 ∷ []) × (lane_of pass.new ≡ lane_of pass.old) }
-    ensures event { Makes pass.old result.number (call.Floor window) (floor_reply result.answer) pass.new }
-    ensures device { FloorsDevice window result.answer (device_of (view pass.old)) (device_of (view pass.new)) }
+    ensures event { MakesOne pass.old result.number (call.Floor window) (floor_reply result.answer) pass.new }
+    ensures device { FloorsDevice window result.answer (device_share_seen (view pass.old)) (device_share_seen (view pass.new)) }
     ensures raised { RaisesIfFloor window result.answer (view pass.new) }
 {
     let answer = FloorAnswer::Floor { floor };
@@ -161,8 +161,8 @@ fn reserve_and_raise<V: Parts<K>, K>(
     requires stands { HasWide (view pass.old) wide }
     requires told { FloorTold window wide (floor_.Floor floor) }
     ensures pass { IsPassOf shard.now pass.new × (held pass.new ≡ 0 ∷ []) × (lane_of pass.new ≡ lane_of pass.old) }
-    ensures event { IfOk result (λ r. Makes pass.old r.number (call.Floor window) (floor_reply r.answer) pass.new) }
-    ensures device { IfOk result (λ r. FloorsDevice window r.answer (device_of (view pass.old)) (device_of (view pass.new))) }
+    ensures event { IfOk result (λ r. MakesOne pass.old r.number (call.Floor window) (floor_reply r.answer) pass.new) }
+    ensures device { IfOk result (λ r. FloorsDevice window r.answer (device_share_seen (view pass.old)) (device_share_seen (view pass.new))) }
     ensures raised { IfOk result (λ r. RaisesIfFloor window r.answer (view pass.new)) }
     ensures none { OnErr result (MakesNone pass.old pass.new) }
     ensures kept { OnErr result (KeepsDevice (view pass.old) (view pass.new)) }
@@ -190,8 +190,8 @@ pub fn make_floor<V: Parts<K>, K, R: Wait>(
     requires pass { IsPassOf shard.now pass.old × (held pass.old ≡ 0 ∷ []) × (0 < left_of_pass pass.old) }
     requires window { window ≤ last_window }
     ensures pass { IsPassOf shard.now pass.new × (held pass.new ≡ 0 ∷ []) × (lane_of pass.new ≡ lane_of pass.old) }
-    ensures event { IfOk result (λ r. Makes pass.old r.number (call.Floor window) (floor_reply r.answer) pass.new) }
-    ensures device { IfOk result (λ r. FloorsDevice window r.answer (device_of (view pass.old)) (device_of (view pass.new))) }
+    ensures event { IfOk result (λ r. MakesOne pass.old r.number (call.Floor window) (floor_reply r.answer) pass.new) }
+    ensures device { IfOk result (λ r. FloorsDevice window r.answer (device_share_seen (view pass.old)) (device_share_seen (view pass.new))) }
     ensures raised { IfOk result (λ r. RaisesIfFloor window r.answer (view pass.new)) }
     ensures none { OnErr result (MakesNone pass.old pass.new) }
     ensures kept { OnErr result (KeepsDevice (view pass.old) (view pass.new)) }

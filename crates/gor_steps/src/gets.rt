@@ -7,11 +7,11 @@ ghost use Rattle.gor_hall.specs.Halls.{IsPassOf, start_of};
 ghost use Rattle.gor_hall.specs.Passes.{held, lane_of, left_of_pass, moves};
 ghost use Rattle.gor_cell.specs.Steps.{copied_points};
 ghost use Rattle.gor_steps.specs.declared.gets.GetFault.TheVariants.{Range};
-ghost use Rattle.gor_steps.specs.Gets.{LooksUp, ReadsIfThere, Answers, KeepsDirectory, HasReply, WasRead};
+ghost use Rattle.gor_steps.specs.Gets.{LooksUp, ReadsIfThere, AnswersGet, KeepsDirectory, HasReply, WasRead};
 ghost use Rattle.gor_steps.specs.Moves.{AddsMoves, ReadsApart};
 ghost use Rattle.gor_hall.specs.Calls.{KeepsPauses};
 ghost use Rattle.gor_steps.specs.Pauses.{PausesIfRead, PausesIfFound, PausesIfPoints, PausesIfMade};
-ghost use Rattle.gor_steps.specs.Points.{IsReady, IsBack, Makes, MakesNone, get_reply, GetRefused};
+ghost use Rattle.gor_steps.specs.Points.{IsReady, IsBack, MakesOne, MakesNone, get_reply, GetRefused};
 
 use crate::kinds::Parts;
 use crate::parts::{take_directory, take_series};
@@ -104,7 +104,7 @@ pub fn read_again<V: Parts<K>, K, P: Pause, R: Wait>(
 ) -> Result<Found, AllocError>
     requires pass { IsPassOf shard.now pass.old × (held pass.old ≡ []) × (0 < left_of_pass pass.old) }
     ensures pass { IsBack shard.now pass.old pass.new }
-    ensures found { IfOk result (Answers pass.old wanted.now pass.new) }
+    ensures found { IfOk result (AnswersGet pass.old wanted.now pass.new) }
     ensures paused { IfOk result (PausesIfFound (P.called pause.now (lane_of pass.old) place) pass.old pass.new) }
     ensures none { OnErr result (MakesNone pass.old pass.new) }
     ensures unpaused { OnErr result (KeepsPauses pass.old pass.new) }
@@ -130,7 +130,7 @@ fn find<V: Parts<K>, K, P: Pause, R: Wait>(
 ) -> Result<Found, AllocError>
     requires pass { IsPassOf shard.now pass.old × (held pass.old ≡ []) × (0 < left_of_pass pass.old) }
     ensures pass { IsBack shard.now pass.old pass.new }
-    ensures found { IfOk result (Answers pass.old wanted.now pass.new) }
+    ensures found { IfOk result (AnswersGet pass.old wanted.now pass.new) }
     ensures paused { IfOk result (PausesIfFound (P.called pause.now (lane_of pass.old) place) pass.old pass.new) }
     ensures none { OnErr result (MakesNone pass.old pass.new) }
     ensures unpaused { OnErr result (KeepsPauses pass.old pass.new) }
@@ -183,7 +183,7 @@ pub fn get<V: Parts<K>, K, P: Pause, R: Wait>(
 ) -> Result<GetReply, GetFault>
     requires pass { IsReady shard.now pass.old }
     ensures pass { IsBack shard.now pass.old pass.new }
-    ensures event { IfOk result (λ r. (from ≤ to) × Makes pass.old r.number (call.Get (key_of name.now) from to) (get_reply r.answer) pass.new) }
+    ensures event { IfOk result (λ r. (from ≤ to) × MakesOne pass.old r.number (call.Get (key_of name.now) from to) (get_reply r.answer) pass.new) }
     ensures refused { IfErr result (GetRefused pass.old (key_of name.now) from to pass.new) }
     ensures paused { IfOk result (λ r. PausesIfPoints (P.called pause.now (lane_of pass.old) place) pass.old pass.new r.number r.answer) }
     ensures failed { OnErr result (PausesIfMade (P.called pause.now (lane_of pass.old) place) pass.old pass.new) }

@@ -27,7 +27,7 @@ pub(crate) struct Held {
 
 /// What a call holds that puts to a series that is there.
 #[derive(Drop)]
-pub(crate) struct Both {
+pub(crate) struct HeldPair {
     pub(crate) cell: Cell,
     pub(crate) journal: Journal,
 }
@@ -79,14 +79,14 @@ pub(crate) fn give_all<V: Parts<K>, K>(shard: &Hall<V>, pass: &mut Pass, slot: u
 }
 
 /// Gives the journal and the series back.
-pub(crate) fn give_both<V: Parts<K>, K>(shard: &Hall<V>, pass: &mut Pass, slot: u32, both: Both)
+pub(crate) fn give_both<V: Parts<K>, K>(shard: &Hall<V>, pass: &mut Pass, slot: u32, both: HeldPair)
     requires pass { IsPassOf shard.now pass.old }
     requires slot { slot < (start_of shard.now).slots }
     requires stands { HasBoth (view pass.old) slot both }
     ensures pass { StaysPass shard.now 0 pass.old pass.new }
     ensures gave { view pass.new ≡ gave (gave (view pass.old) ((start_of shard.now).slots + 2)) (slot + 2) }
 {
-    let Both { cell, journal } = both;
+    let HeldPair { cell, journal } = both;
     give_journal(shard, pass, journal);
     give_series(shard, pass, slot, cell);
 }

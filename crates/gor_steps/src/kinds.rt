@@ -3,11 +3,10 @@ ghost use Rattle.std.specs.Prelude.{ℕ, Option};
 ghost use Rattle.gor_model.specs.declared.start.Start.{Start};
 ghost use Rattle.gor_model.specs.Shares.{DirectoryShare, SeriesShare, JournalShare, OfDirectory, OfSlot, OfJournal};
 ghost use Rattle.gor_cell.specs.declared.cell.Cell.{Cell as Series};
-ghost use Rattle.gor_cell.specs.Stands as series;
-ghost use Rattle.gor_dir.specs.Listings.{Listing};
-ghost use Rattle.gor_dir.specs.Listings as directory;
-ghost use Rattle.gor_journal.specs.Bodies.{Kept};
-ghost use Rattle.gor_journal.specs.Stands as journal;
+ghost use Rattle.gor_cell.specs.Stands.{CellStands};
+ghost use Rattle.gor_dir.specs.Listings.{Listing, ListingStands};
+ghost use Rattle.gor_journal.specs.Bodies.{KeptJournal};
+ghost use Rattle.gor_journal.specs.Stands.{PendingStands};
 
 use gor_cell::Cell;
 use gor_dir::Directory;
@@ -26,7 +25,7 @@ pub trait Parts<K>: Thing {
     ghost is_series: { Self → Series → Type 0 };
 
     /// It is this journal.
-    ghost is_journal: { Self → Kept → Type 0 };
+    ghost is_journal: { Self → KeptJournal → Type 0 };
 
     /// The value that is a directory.
     fn of_directory(directory: Directory) -> Self
@@ -52,24 +51,24 @@ pub trait Parts<K>: Thing {
 
     /// The journal that it is.
     fn into_journal(self) -> Journal
-        requires { (j : Kept) × is_journal self j }
+        requires { (j : KeptJournal) × is_journal self j }
         ensures { is_journal self result };
 
     ghost some_directory: { (start : Start) (o : ℕ) (x : Self) (share : DirectoryShare) → Self.stands start o x (OfDirectory share) → (i : Listing) × is_directory x i };
 
     ghost some_series: { (start : Start) (o : ℕ) (x : Self) (share : Option SeriesShare) → Self.stands start o x (OfSlot share) → (c : Series) × is_series x c };
 
-    ghost some_journal: { (start : Start) (o : ℕ) (x : Self) (share : JournalShare) → Self.stands start o x (OfJournal share) → (j : Kept) × is_journal x j };
+    ghost some_journal: { (start : Start) (o : ℕ) (x : Self) (share : JournalShare) → Self.stands start o x (OfJournal share) → (j : KeptJournal) × is_journal x j };
 
-    ghost directory_in: { (start : Start) (o : ℕ) (x : Self) (i : Listing) (share : DirectoryShare) → is_directory x i → Self.stands start o x (OfDirectory share) → directory.Stands i share };
+    ghost directory_in: { (start : Start) (o : ℕ) (x : Self) (i : Listing) (share : DirectoryShare) → is_directory x i → Self.stands start o x (OfDirectory share) → ListingStands i share };
 
-    ghost series_in: { (start : Start) (o : ℕ) (x : Self) (c : Series) (share : Option SeriesShare) → is_series x c → Self.stands start o x (OfSlot share) → series.Stands c.live share };
+    ghost series_in: { (start : Start) (o : ℕ) (x : Self) (c : Series) (share : Option SeriesShare) → is_series x c → Self.stands start o x (OfSlot share) → CellStands c.live share };
 
-    ghost journal_in: { (start : Start) (o : ℕ) (x : Self) (j : Kept) (share : JournalShare) → is_journal x j → Self.stands start o x (OfJournal share) → journal.Stands j.pending share };
+    ghost journal_in: { (start : Start) (o : ℕ) (x : Self) (j : KeptJournal) (share : JournalShare) → is_journal x j → Self.stands start o x (OfJournal share) → PendingStands j.pending share };
 
-    ghost directory_out: { (start : Start) (o : ℕ) (x : Self) (i : Listing) (share : DirectoryShare) → is_directory x i → directory.Stands i share → Self.stands start o x (OfDirectory share) };
+    ghost directory_out: { (start : Start) (o : ℕ) (x : Self) (i : Listing) (share : DirectoryShare) → is_directory x i → ListingStands i share → Self.stands start o x (OfDirectory share) };
 
-    ghost series_out: { (start : Start) (o : ℕ) (x : Self) (c : Series) (share : Option SeriesShare) → is_series x c → series.Stands c.live share → Self.stands start o x (OfSlot share) };
+    ghost series_out: { (start : Start) (o : ℕ) (x : Self) (c : Series) (share : Option SeriesShare) → is_series x c → CellStands c.live share → Self.stands start o x (OfSlot share) };
 
-    ghost journal_out: { (start : Start) (o : ℕ) (x : Self) (j : Kept) (share : JournalShare) → is_journal x j → journal.Stands j.pending share → Self.stands start o x (OfJournal share) };
+    ghost journal_out: { (start : Start) (o : ℕ) (x : Self) (j : KeptJournal) (share : JournalShare) → is_journal x j → PendingStands j.pending share → Self.stands start o x (OfJournal share) };
 }

@@ -10,12 +10,12 @@ ghost use Rattle.gor_hall.specs.Passes.{view, held, left_of_pass, moves};
 ghost use Rattle.gor_steps.specs.declared.puts.PutFault.TheVariants.{Time};
 ghost use Rattle.gor_steps.specs.Gets.{slot_of};
 ghost use Rattle.gor_steps.specs.Moves.{AddsMoves, PutsApart};
-ghost use Rattle.gor_steps.specs.Points.{IsReady, IsBack, Makes, MakesNone};
+ghost use Rattle.gor_steps.specs.Points.{IsReady, IsBack, MakesOne, MakesNone};
 ghost use Rattle.gor_steps.specs.Puts.{KeepsAll, BeginsOrStops, PutMakes, PutsAgain, PutRefused, put_reply};
 ghost use Rattle.gor_steps.specs.Views.{HasDirectory, IsSound};
 
 use crate::begins::put_absent;
-use crate::held::{Both, Held, take_more};
+use crate::held::{Held, HeldPair, take_more};
 use crate::kinds::Parts;
 use crate::parts::{give_directory, take_directory};
 use crate::puts::{NewPoint, PutFault, PutReply, put_at, put_there};
@@ -50,7 +50,7 @@ fn put_kept<V: Parts<K>, K, R: Wait>(
         cell,
         journal,
     } = take_more(rt, shard, pass, directory, slot);
-    let both = Both { cell, journal };
+    let both = HeldPair { cell, journal };
     let reply = put_there(shard, pass, slot, both, point);
     give_directory(shard, pass, directory);
     reply
@@ -131,7 +131,7 @@ pub fn put<V: Parts<K>, K, R: Wait>(
 ) -> Result<PutReply, PutFault>
     requires pass { IsReady shard.now pass.old }
     ensures pass { IsBack shard.now pass.old pass.new }
-    ensures event { IfOk result (λ r. (time ≤ greatest_time) × Makes pass.old r.number (call.Put name.now (key_of name.now) time word) (put_reply r.answer) pass.new) }
+    ensures event { IfOk result (λ r. (time ≤ greatest_time) × MakesOne pass.old r.number (call.Put name.now (key_of name.now) time word) (put_reply r.answer) pass.new) }
     ensures refused { IfErr result (PutRefused pass.old time pass.new) }
     ensures late { greatest_time < time → result ≡ Err (Time time) }
     ensures moves { IfOk result (λ r. AddsMoves pass.old pass.new (PutsApart (start_of shard.now).slots (BeginsOrStops (key_of name.now) pass.new r.answer))) }

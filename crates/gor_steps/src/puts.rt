@@ -14,7 +14,7 @@ ghost use Rattle.gor_steps.specs.Points.{IsBack, MakesNone, GivesBoth};
 ghost use Rattle.gor_steps.specs.Puts.{HasBoth, PutsIn, PutMakes, PutsIfThere, PutsAt};
 ghost use Rattle.gor_steps.specs.Views.{IsSound};
 
-use crate::held::{Both, give_both};
+use crate::held::{HeldPair, give_both};
 use crate::kinds::Parts;
 use crate::parts::{give_series, take_journal, take_series};
 use gor_cell::CellPut;
@@ -89,7 +89,7 @@ impl Says for Put<'_> {
 }
 
 // Makes the room for a put in both.
-fn reserve_in(both: &mut Both, point: &NewPoint) -> Result<(), AllocError>
+fn reserve_in(both: &mut HeldPair, point: &NewPoint) -> Result<(), AllocError>
     requires live { IsSome both.old.cell.live }
     requires timely { point.now.time ≤ greatest_time }
     ensures cell { KeepsShare both.old.cell.live both.new.cell.live }
@@ -106,7 +106,7 @@ fn reserve_in(both: &mut Both, point: &NewPoint) -> Result<(), AllocError>
 }
 
 // Puts the point where no stop stands.
-fn put_in(both: Both, point: &NewPoint) -> (Both, PutAnswer)
+fn put_in(both: HeldPair, point: &NewPoint) -> (HeldPair, PutAnswer)
     requires timely { point.now.time ≤ greatest_time }
     requires live { IfSome both.cell.live (λ s. IsNumber s.uid) }
     requires room { HasRoom both.cell.live point.now.time × (47 ≤ both.journal.log_room) }
@@ -138,7 +138,7 @@ pub(crate) fn put_there<V: Parts<K>, K>(
     shard: &Hall<V>,
     pass: &mut Pass,
     slot: u32,
-    both: Both,
+    both: HeldPair,
     point: &NewPoint,
 ) -> Result<PutReply, PutFault>
     requires pass { IsPassOf shard.now pass.old × (0 < left_of_pass pass.old) }
@@ -193,7 +193,7 @@ pub fn put_at<V: Parts<K>, K, R: Wait>(
         return Ok(None);
     }
     let journal = take_journal(rt, shard, pass);
-    let both = Both { cell, journal };
+    let both = HeldPair { cell, journal };
     let reply = put_there(shard, pass, slot, both, point)?;
     Ok(Some(reply))
 }

@@ -8,12 +8,12 @@ ghost use Rattle.gor_rule.specs.Plays.{without};
 ghost use Rattle.gor_hall.specs.Halls.{IsPassOf, start_of};
 ghost use Rattle.gor_hall.specs.Passes.{view, held, lane_of, left_of_pass, moves, refused};
 ghost use Rattle.gor_cell.specs.Steps.{holds_key, copied_points};
-ghost use Rattle.gor_dir.specs.Listings.{shown};
+ghost use Rattle.gor_dir.specs.Listings.{directory_shown};
 ghost use Rattle.gor_steps.specs.Views.{HasDirectory, HasSeries, IsSound, KeepsShares};
-ghost use Rattle.gor_steps.specs.Points.{Makes, MakesNone};
+ghost use Rattle.gor_steps.specs.Points.{MakesOne, MakesNone};
 ghost use Rattle.gor_hall.specs.Calls.{KeepsPauses};
 ghost use Rattle.gor_steps.specs.Pauses.{Pauses, PausesIfRead};
-ghost use Rattle.gor_steps.specs.Gets.{get_call, Reads, ReadsIfThere, LooksUp, IsNoMiss, slot_of};
+ghost use Rattle.gor_steps.specs.Gets.{get_call, ReadsSeries, ReadsIfThere, LooksUp, IsNoMiss, slot_of};
 
 use crate::kinds::Parts;
 use crate::parts::{give_directory, give_series};
@@ -102,10 +102,10 @@ pub(crate) fn miss<V: Parts<K>, K>(
     requires pass { IsPassOf shard.now pass.old × (held pass.old ≡ 1 ∷ []) × (0 < left_of_pass pass.old) }
     requires sound { IsSound (view pass.old) }
     requires stands { HasDirectory (view pass.old) directory }
-    requires absent { (shown directory).entry (key_of wanted.now.name.now) ≡ None }
+    requires absent { (directory_shown directory).entry (key_of wanted.now.name.now) ≡ None }
     ensures pass { IsPassOf shard.now pass.new × (held pass.new ≡ []) × (lane_of pass.new ≡ lane_of pass.old) }
     ensures pauses { KeepsPauses pass.old pass.new }
-    ensures event { Makes pass.old result (get_call wanted.now) reply.Absent pass.new }
+    ensures event { MakesOne pass.old result (get_call wanted.now) reply.Absent pass.new }
     ensures moves { moves pass.new ≡ Gave 1 ∷ moves pass.old }
 {
     let missing = Missing {
@@ -133,7 +133,7 @@ fn read_cell<V: Parts<K>, K, P: Pause>(
     requires stands { HasSeries (view pass.old) slot cell.now }
     requires holds { holds_key (key_of wanted.now.name.now) cell.now.live ≡ true }
     ensures pass { IsPassOf shard.now pass.new × (lane_of pass.new ≡ lane_of pass.old) × (held pass.new ≡ held pass.old) × (moves pass.new ≡ moves pass.old) }
-    ensures read { IfOk result (λ read. Reads pass.old wanted.now pass.new read) }
+    ensures read { IfOk result (λ read. ReadsSeries pass.old wanted.now pass.new read) }
     ensures paused { IfOk result (λ read. Pauses (P.called pause.now (lane_of pass.old) place) pass.old pass.new read.number) }
     ensures shares { KeepsShares (view pass.old) (view pass.new) }
     ensures err { OnErr result (pass.new ≡ pass.old) }
@@ -168,7 +168,7 @@ pub(crate) fn read_series<V: Parts<K>, K, P: Pause>(
     requires holds { holds_key (key_of wanted.now.name.now) cell.live ≡ true }
     ensures pass { IsPassOf shard.now pass.new × (lane_of pass.new ≡ lane_of pass.old) × (held pass.new ≡ without (slot + 2) (held pass.old)) }
     ensures moves { moves pass.new ≡ Gave (slot + 2) ∷ moves pass.old }
-    ensures read { IfOk result (λ read. Reads pass.old wanted.now pass.new read) }
+    ensures read { IfOk result (λ read. ReadsSeries pass.old wanted.now pass.new read) }
     ensures paused { IfOk result (λ read. Pauses (P.called pause.now (lane_of pass.old) place) pass.old pass.new read.number) }
     ensures none { OnErr result (MakesNone pass.old pass.new) }
     ensures unpaused { OnErr result (KeepsPauses pass.old pass.new) }
@@ -260,7 +260,7 @@ pub(crate) fn read_kept<V: Parts<K>, K, P: Pause>(
     requires series { HasSeries (view pass.old) slot cell }
     requires found { slot_of directory (key_of wanted.now.name.now) ≡ Some slot }
     ensures pass { IsPassOf shard.now pass.new × (held pass.new ≡ []) × (lane_of pass.new ≡ lane_of pass.old) }
-    ensures read { IfOk result (λ read. Reads pass.old wanted.now pass.new read) }
+    ensures read { IfOk result (λ read. ReadsSeries pass.old wanted.now pass.new read) }
     ensures paused { IfOk result (λ read. Pauses (P.called pause.now (lane_of pass.old) place) pass.old pass.new read.number) }
     ensures none { OnErr result (MakesNone pass.old pass.new) }
     ensures unpaused { OnErr result (KeepsPauses pass.old pass.new) }

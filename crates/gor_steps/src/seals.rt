@@ -9,7 +9,7 @@ ghost use Rattle.gor_steps.specs.Points.{MakesNone};
 ghost use Rattle.gor_steps.specs.Puts.{HasBoth};
 ghost use Rattle.gor_steps.specs.Views.{HasSeries, IsSound};
 
-use crate::held::{Both, give_both};
+use crate::held::{HeldPair, give_both};
 use crate::kinds::Parts;
 use crate::parts::{give_series, take_journal, take_series};
 use gor_cell::{Cell, SealedBlocks};
@@ -53,7 +53,7 @@ impl Says for Sealed<'_> {
 // A series that is sealed, with the journal that has its change.
 #[derive(Drop)]
 pub(crate) struct Made {
-    pub(crate) both: Both,
+    pub(crate) both: HeldPair,
     pub(crate) name: Bytes,
     pub(crate) uid: u64,
     pub(crate) sealed: SealedBlocks,
@@ -79,7 +79,7 @@ fn bytes_of(alloc: Global, name: &Name) -> Result<Bytes, AllocError>
 }
 
 // Makes the room for a seal but for the copies of its blocks, and tells whose it is.
-fn reserve_seal(alloc: Global, both: &mut Both, window: u32) -> Result<(Bytes, u64), AllocError>
+fn reserve_seal(alloc: Global, both: &mut HeldPair, window: u32) -> Result<(Bytes, u64), AllocError>
     requires { IsSome both.old.cell.live }
     ensures same { IsSameBoth both.old both.new }
     ensures told { IfOk result (λ r. IfSome both.old.cell.live (λ s. (r.0 ≡ s.name) × (r.1 ≡ s.uid))) }
@@ -92,7 +92,7 @@ fn reserve_seal(alloc: Global, both: &mut Both, window: u32) -> Result<(Bytes, u
 }
 
 // Seals the series in both. Where memory is wanting both stand for what they did.
-fn seal_in(alloc: Global, both: Both, first: u32, window: u32) -> Result<Made, Both>
+fn seal_in(alloc: Global, both: HeldPair, first: u32, window: u32) -> Result<Made, HeldPair>
     requires windows { (first ≤ window) × (window ≤ last_window) }
     requires open { is_open_to window both.cell.live ≡ true }
     requires uid { IfSome both.cell.live (λ s. IsNumber s.uid) }
@@ -125,7 +125,7 @@ fn seal<V: Parts<K>, K>(
     shard: &Hall<V>,
     pass: &mut Pass,
     slot: u32,
-    both: Both,
+    both: HeldPair,
     first: u32,
     window: u32,
 ) -> Result<SealReply, AllocError>
@@ -220,7 +220,7 @@ pub fn seal_one<V: Parts<K>, K, R: Wait>(
         return Ok(None);
     }
     let journal = take_journal(rt, shard, pass);
-    let both = Both { cell, journal };
+    let both = HeldPair { cell, journal };
     let reply = seal(alloc, shard, pass, slot, both, first, window)?;
     Ok(Some(reply))
 }

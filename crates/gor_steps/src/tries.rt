@@ -6,10 +6,10 @@ ghost use Rattle.gor_model.specs.Names.{key_of};
 ghost use Rattle.gor_hall.specs.Halls.{IsPassOf, start_of};
 ghost use Rattle.gor_hall.specs.Passes.{held, left_of_pass, moves, refused};
 ghost use Rattle.gor_steps.specs.declared.tries.TryFault.TheVariants.{Range};
-ghost use Rattle.gor_steps.specs.Gets.{ReadsIfThere, Answers, KeepsDirectory};
+ghost use Rattle.gor_steps.specs.Gets.{ReadsIfThere, AnswersGet, KeepsDirectory};
 ghost use Rattle.gor_steps.specs.Moves.{AddsMoves, ReadsApart};
-ghost use Rattle.gor_steps.specs.Points.{IsReady, IsBack, Makes, get_reply};
-ghost use Rattle.gor_steps.specs.Tries.{TriesLookUp, IsHeld, Fails, TryRefused};
+ghost use Rattle.gor_steps.specs.Points.{IsReady, IsBack, MakesOne, get_reply};
+ghost use Rattle.gor_steps.specs.Tries.{TriesLookUp, MeetsHeld, FailsBeforeEvent, TryRefused};
 
 use crate::gets::{GetReply, reply};
 use crate::kinds::Parts;
@@ -43,7 +43,7 @@ fn look_up<V: Parts<K>, K>(
     requires pass { IsPassOf shard.now pass.old × (held pass.old ≡ []) × (0 < left_of_pass pass.old) }
     ensures pass { IsBack shard.now pass.old pass.new }
     ensures found { IfOk result (TriesLookUp (start_of shard.now).slots pass.old wanted.now pass.new) }
-    ensures held { IfErr result (λ fault. IsHeld pass.old pass.new fault × (moves pass.new ≡ moves pass.old)) }
+    ensures held { IfErr result (λ fault. MeetsHeld pass.old pass.new fault × (moves pass.new ≡ moves pass.old)) }
 {
     match try_take_directory(shard, pass) {
         Some(directory) => Ok(look_in(shard, pass, directory, wanted)),
@@ -63,7 +63,7 @@ fn read_at<V: Parts<K>, K>(
     ensures pass { IsBack shard.now pass.old pass.new }
     ensures read { IfOk result (ReadsIfThere pass.old wanted.now pass.new) }
     ensures refused { IfOk result (λ read. IfNone read (refused pass.new ≡ refused pass.old)) }
-    ensures fails { IfErr result (Fails pass.old pass.new) }
+    ensures fails { IfErr result (FailsBeforeEvent pass.old pass.new) }
     ensures moves { IfOk result (λ read. moves pass.new ≡ Gave (slot + 2) ∷ Took (slot + 2) ∷ moves pass.old) }
     ensures fewer { (moves pass.new ≡ moves pass.old) ⊎ (moves pass.new ≡ Gave (slot + 2) ∷ Took (slot + 2) ∷ moves pass.old) }
 {
@@ -85,8 +85,8 @@ fn read_again<V: Parts<K>, K>(
 ) -> Result<Found, TryFault>
     requires pass { IsPassOf shard.now pass.old × (held pass.old ≡ []) × (0 < left_of_pass pass.old) }
     ensures pass { IsBack shard.now pass.old pass.new }
-    ensures found { IfOk result (Answers pass.old wanted.now pass.new) }
-    ensures fails { IfErr result (Fails pass.old pass.new) }
+    ensures found { IfOk result (AnswersGet pass.old wanted.now pass.new) }
+    ensures fails { IfErr result (FailsBeforeEvent pass.old pass.new) }
     ensures moves { (moves pass.new ≡ moves pass.old) ⊎ KeepsDirectory (start_of shard.now).slots pass.old pass.new }
 {
     let Some(directory) = try_take_directory(shard, pass) else {
@@ -114,8 +114,8 @@ fn find<V: Parts<K>, K>(
 ) -> Result<Found, TryFault>
     requires pass { IsPassOf shard.now pass.old × (held pass.old ≡ []) × (0 < left_of_pass pass.old) }
     ensures pass { IsBack shard.now pass.old pass.new }
-    ensures found { IfOk result (Answers pass.old wanted.now pass.new) }
-    ensures fails { IfErr result (Fails pass.old pass.new) }
+    ensures found { IfOk result (AnswersGet pass.old wanted.now pass.new) }
+    ensures fails { IfErr result (FailsBeforeEvent pass.old pass.new) }
     ensures moves { AddsMoves pass.old pass.new (ReadsApart (start_of shard.now).slots) }
 {
     let slot = match look_up(shard, pass, wanted)? {
@@ -143,7 +143,7 @@ pub fn try_get<V: Parts<K>, K>(
 ) -> Result<GetReply, TryFault>
     requires pass { IsReady shard.now pass.old }
     ensures pass { IsBack shard.now pass.old pass.new }
-    ensures event { IfOk result (λ r. (from ≤ to) × Makes pass.old r.number (call.Get (key_of name.now) from to) (get_reply r.answer) pass.new) }
+    ensures event { IfOk result (λ r. (from ≤ to) × MakesOne pass.old r.number (call.Get (key_of name.now) from to) (get_reply r.answer) pass.new) }
     ensures refused { IfErr result (TryRefused pass.old (key_of name.now) from to pass.new) }
     ensures range { to < from → result ≡ Err (Range from to) }
     ensures moves { AddsMoves pass.old pass.new (ReadsApart (start_of shard.now).slots) }

@@ -4,19 +4,19 @@ use Rattle.std.proofs.lemmas.List.{take_more, length-map}
 use Rattle.gor_hall.specs.declared.pass.Pass.{Pass}
 use Rattle.gor_text.specs.declared.answer.LaneAnswer.{LaneAnswer}
 use Rattle.gor_store.specs.declared.phases.Lane.{Lane}
-use Rattle.gor_store.specs.Phases.{passes_of, answers_of}
+use Rattle.gor_store.specs.Phases.{passes_of_lanes, answers_of}
 use Rattle.gor_store.proofs.LaneLaws.{flat_last}
 
 -- the first lanes handed their answers over, and the others are as they were
 pub record AreGathered (lanes : List Lane) (i : ℕ) (now : List Lane) (told : List LaneAnswer) : Type 0 where
   pub whole : (k : ℕ) → k < i → (d : Lane) → (get_or lanes k d).whole ≡ true
   pub told_is : told ≡ answers_of (take i lanes)
-  pub passes : passes_of now ≡ passes_of lanes
+  pub passes : passes_of_lanes now ≡ passes_of_lanes lanes
   pub rest : (k : ℕ) → i ≤ k → (d : Lane) → get_or now k d ≡ get_or lanes k d
 
-passes_set : (lanes : List Lane) (i : ℕ) (d new : Lane) → i < length lanes → new.pass ≡ (get_or lanes i d).pass → passes_of (set lanes i new) ≡ passes_of lanes
+passes_set : (lanes : List Lane) (i : ℕ) (d new : Lane) → i < length lanes → new.pass ≡ (get_or lanes i d).pass → passes_of_lanes (set lanes i new) ≡ passes_of_lanes lanes
 passes_set [] i d new low same = refl
-passes_set (lane ∷ lanes) zero d new low same = ap (λ (p : Pass). p ∷ passes_of lanes) same
+passes_set (lane ∷ lanes) zero d new low same = ap (λ (p : Pass). p ∷ passes_of_lanes lanes) same
 passes_set (lane ∷ lanes) (suc i) d new low same = ap (λ (ps : List Pass). lane.pass ∷ ps) (passes_set lanes i d new (omega (arith, low)) same)
 
 default_same : (lanes : List Lane) (i : ℕ) (d e : Lane) → i < length lanes → get_or lanes i d ≡ get_or lanes i e
@@ -26,7 +26,7 @@ default_same (lane ∷ lanes) (suc i) d e low = default_same lanes i d e (omega 
 
 module _ (lanes : List Lane) (i : ℕ) (now : List Lane) (told : List LaneAnswer) (d new : Lane) (low : i < length now) (a : AreGathered lanes i now told) (pass : new.pass ≡ (get_or now i d).pass) where
   -- the lane keeps its pass, also where it hands nothing over
-  pub pass_kept : passes_of (set now i new) ≡ passes_of lanes
+  pub pass_kept : passes_of_lanes (set now i new) ≡ passes_of_lanes lanes
   pass_kept = passes_set now i d new low pass ∙ a.passes
 
   pub one_more : (after : List LaneAnswer) → (get_or now i d).whole ≡ true → after ≡ told ++ (get_or now i d).answers.items → AreGathered lanes (i + 1) (set now i new) after

@@ -16,9 +16,9 @@ use Rattle.gor_model.specs.Windows.{kept}
 use Rattle.gor_model.proofs.NumberedLaws.{device_at, directory_at, series_at, journal_at}
 use Rattle.gor_model.proofs.SlotLaws.{bytes_tell}
 use Rattle.gor_hall.specs.Openings.{AllStand}
-use Rattle.gor_dir.specs.Listings as directory
-use Rattle.gor_journal.specs.Stands as journal
-use Rattle.gor_flush.specs.Devices.{Shown, StandsFor, shown}
+use Rattle.gor_dir.specs.Listings.{ListingStands}
+use Rattle.gor_journal.specs.Stands.{PendingStands}
+use Rattle.gor_flush.specs.Devices.{Shown, DeviceStandsFor, device_shown}
 use Rattle.gor_flush.specs.Parts.{part_stands}
 use Rattle.gor_flush.specs.declared.device.Device.{Device}
 use Rattle.gor_flush.specs.declared.part.Part.{Part}
@@ -28,7 +28,7 @@ use Rattle.gor_flush.specs.FitTest.{is_fit}
 use Rattle.gor_recover.specs.Recovered.{recovered_start, keyed_row}
 use Rattle.gor_recover.specs.declared.recovered.Recovered.{Recovered}
 use Rattle.gor_store.specs.declared.values.Parts.{Parts}
-use Rattle.gor_store.specs.Series.{CellsStand, series_in}
+use Rattle.gor_store.specs.Series.{CellsStand, series_at_slot}
 use Rattle.gor_store.specs.Values.{ArePartsOf, in_order}
 use Rattle.gor_store.proofs.Sealing.{all_kept}
 
@@ -43,10 +43,10 @@ holds slot r = nat_eq r.1.slot slot
 abbrev share_in : List ℕ × Row → SeriesShare
 share_in r = record { key = r.0; row = r.1 }
 
-found : (rows : Rows) (slot : ℕ) → series_in rows slot ≡ option_map share_in (find (holds slot) rows)
+found : (rows : Rows) (slot : ℕ) → series_at_slot rows slot ≡ option_map share_in (find (holds slot) rows)
 found [] slot = refl
 found (q ∷ rows) slot = at (nat_eq q.1.slot slot) refl (found rows slot) where
-  at : (b : Bool) → nat_eq q.1.slot slot ≡ b → series_in rows slot ≡ option_map share_in (find (holds slot) rows) → series_in (q ∷ rows) slot ≡ option_map share_in (find (holds slot) (q ∷ rows))
+  at : (b : Bool) → nat_eq q.1.slot slot ≡ b → series_at_slot rows slot ≡ option_map share_in (find (holds slot) rows) → series_at_slot (q ∷ rows) slot ≡ option_map share_in (find (holds slot) (q ∷ rows))
   at true e further = rw e refl
   at false e further = rw e further
 
@@ -94,7 +94,7 @@ module _ (start : Start) (is : IsStart start) where
       ap (λ (row : Option Row). option_map {U = SeriesShare} (λ a. record { key = r.0; row = a }) (kept_of row)) (found_row start.rows slot r is.apart e)
       ∙ ap (λ (a : Row). Some (share_in (r.0, a))) (same_row start.slots r.0 r.1 (found_in (λ q. IsRow start.slots q.0 q.1) start.rows slot r is.rows e))
 
-  pub series_by_rows : (slot : ℕ) → series_share start [] slot ≡ series_in start.rows slot
+  pub series_by_rows : (slot : ℕ) → series_share start [] slot ≡ series_at_slot start.rows slot
   series_by_rows slot = by_row slot (find (holds slot) start.rows) refl ∙ sym (found start.rows slot)
 
 -- ---- the values in their order
@@ -118,9 +118,9 @@ stood f (x ∷ xs) last (suc i) y is = later (stood f xs last i y is) where
   later (Last end same) = Last (ap suc end) same
 
 module _ {D : Type 0} (tells : Bool) (disk : D → DiskView) (faults : D → ℕ) (start : Start) (is : IsStart start) (device : Device D) (parts : Parts)
-    (device_is : StandsFor (shown tells disk faults device) start (device_share start []))
-    (directory_is : directory.Stands parts.directory (directory_share start [])) (count : length parts.cells.items ≡ start.slots)
-    (series : CellsStand start.rows parts.cells.items) (journal_is : journal.Stands parts.journal.pending (journal_share start [])) where
+    (device_is : DeviceStandsFor (device_shown tells disk faults device) start (device_share start []))
+    (directory_is : ListingStands parts.directory (directory_share start [])) (count : length parts.cells.items ≡ start.slots)
+    (series : CellsStand start.rows parts.cells.items) (journal_is : PendingStands parts.journal.pending (journal_share start [])) where
   each : (o : ℕ) (x : Part D) → slice_get (in_order device parts) o ≡ Some x → part_stands tells disk faults start o x (share_of start o [])
   each zero x e = let same : Some (part.Device device) ≡ Some x = e in let own : part.Device device ≡ x = cc in
       subst (λ (z : Part D). part_stands tells disk faults start 0 z (share_of start 0 [])) own (subst (part_stands tells disk faults start 0 (part.Device device)) (sym (device_at start [])) device_is)
@@ -131,7 +131,7 @@ module _ {D : Type 0} (tells : Bool) (disk : D → DiskView) (faults : D → ℕ
     at (Among cell there low same) =
         let number : s + 2 ≡ suc (suc s) = omega arith in
         let below : s < start.slots = omega (arith, low, count) in
-        let share_is : OfSlot (series_in start.rows s) ≡ share_of start (suc (suc s)) [] = ap OfSlot (sym (series_by_rows start is s)) ∙ sym (series_at start s below []) ∙ ap (λ o. share_of start o []) number in
+        let share_is : OfSlot (series_at_slot start.rows s) ≡ share_of start (suc (suc s)) [] = ap OfSlot (sym (series_by_rows start is s)) ∙ sym (series_at start s below []) ∙ ap (λ o. share_of start o []) number in
         subst (λ (z : Part D). part_stands tells disk faults start (suc (suc s)) z (share_of start (suc (suc s)) [])) (sym same)
         (subst (part_stands tells disk faults start (suc (suc s)) (part.Series cell)) share_is (series s cell there))
     at (Last end same) =
@@ -176,19 +176,19 @@ module _ (slots : ℕ) (r : Recovered) where
 
   module _ {D : Type 0} (tells : Bool) (disk : D → DiskView) (faults : D → ℕ) (device : Device D) where
     abbrev start : Start
-    start = start_with slots r (shown tells disk faults device)
+    start = start_with slots r (device_shown tells disk faults device)
 
     abbrev d : Shown
-    d = shown tells disk faults device
+    d = device_shown tells disk faults device
 
     pub all_stand : IsStart (recovered_start slots r) → (parts : Parts)
-        → StandsFor (shown tells disk faults device) start (device_share start []) → ArePartsOf slots r parts → (values : List (Part D)) → values ≡ in_order device parts
+        → DeviceStandsFor (device_shown tells disk faults device) start (device_share start []) → ArePartsOf slots r parts → (values : List (Part D)) → values ≡ in_order device parts
         → AllStand (part_stands tells disk faults) start values []
     all_stand is parts device_is are values same o x at =
         each tells disk faults start (is_start d.shards d.shard d.opened d.begun (is_fit d.shards d.shard d.given) is) device parts device_is
-        (subst (directory.Stands parts.directory) (directory_same d.shards d.shard d.opened d.begun (is_fit d.shards d.shard d.given)) are.directory_is) (are.count ∙ slots_same d.shards d.shard d.opened d.begun (is_fit d.shards d.shard d.given))
+        (subst (ListingStands parts.directory) (directory_same d.shards d.shard d.opened d.begun (is_fit d.shards d.shard d.given)) are.directory_is) (are.count ∙ slots_same d.shards d.shard d.opened d.begun (is_fit d.shards d.shard d.given))
         (subst (λ rows. CellsStand rows parts.cells.items) (rows_same d.shards d.shard d.opened d.begun (is_fit d.shards d.shard d.given)) are.series)
-        (subst (journal.Stands parts.journal.pending) (journal_same d.shards d.shard d.opened d.begun (is_fit d.shards d.shard d.given)) are.journal_is) o x (ap (λ l. slice_get l o) (sym same) ∙ at)
+        (subst (PendingStands parts.journal.pending) (journal_same d.shards d.shard d.opened d.begun (is_fit d.shards d.shard d.given)) are.journal_is) o x (ap (λ l. slice_get l o) (sym same) ∙ at)
 
     pub all_there : (parts : Parts) → ArePartsOf slots r parts → (values : List (Part D)) → values ≡ in_order device parts → length values ≡ objects start
     all_there parts are values same = ap length same ∙ values_count start device parts (are.count ∙ slots_same d.shards d.shard d.opened d.begun (is_fit d.shards d.shard d.given))

@@ -11,7 +11,7 @@ use Rattle.gor_rule.specs.Rule.{numbers}
 use Rattle.gor_rule.proofs.Numbers.{numbers_own}
 use Rattle.gor_hall.specs.declared.pass.Pass.{Pass}
 use Rattle.gor_hall.specs.Closings.{IsWholeHistory}
-use Rattle.gor_finish.specs.Made.{Numbered, StandsIn}
+use Rattle.gor_finish.specs.Made.{Numbered, StandsAtNumber}
 use Rattle.gor_store.specs.Stories.{LaneRun, events_of_lane, numbers_of, HistoryBegins}
 use Rattle.gor_store.specs.Works.{IsWork, IsAmong, LaterIsLast, LaterIsInOrder}
 use Rattle.gor_store.proofs.StoryLists.{heads, tails, same_tails}
@@ -27,7 +27,7 @@ in_front P n c (k ∷ front) low [] after is under from all = subst P (heads k n
 in_front P n c (k ∷ front) low (m ∷ before) after is under from all = in_front P n c front low before after (tails k m (front ++ low) (before ++ n ∷ after) is) under from all.1
 
 -- of two events that stand at one number each is the other
-same_event : (h news rest : History) (e : Event) (x : Numbered) → news ++ e ∷ rest ≡ h → StandsIn h x → x.0 ≡ length rest → x.1 ≡ e
+same_event : (h news rest : History) (e : Event) (x : Numbered) → news ++ e ∷ rest ≡ h → StandsAtNumber h x → x.0 ≡ length rest → x.1 ≡ e
 same_event h news rest e x is s at =
     heads x.1 e s.0 rest (same_tails s.1.0 news (x.1 ∷ s.0) (e ∷ rest) (s.1.1 ∙ sym is) (let long = s.2 in omega (arith, long, at)))
 
@@ -49,8 +49,8 @@ module _ (shard : ℕ) (start : Start) (passes : List Pass) (h : History) (phase
       let news = later_numbers lane front (e ∷ below) in
       let split : numbers_of (last lane) ++ numbers lane g.printed ≡ news.0 ++ n ∷ numbers lane below =
       sym (g.last_are lane) ∙ (ap (numbers lane) (sym at) ∙ (news.1 ∙ ap (λ (ns : List ℕ). news.0 ++ ns) (numbers_own below e))) in
-      let stand : AllByRecursion (StandsIn h) (last lane) = all_behind (StandsIn h) (events_of_lane lane phases) (last lane) (holds shard start passes h phases last w whole lane).1 in
-      let same : AllByRecursion (λ x. x.0 ≡ n → x.1 ≡ e) (last lane) = all_weaker (StandsIn h) (λ (x : Numbered). x.0 ≡ n → x.1 ≡ e) (last lane) (λ x s. same_event h front below e x at s) stand in
+      let stand : AllByRecursion (StandsAtNumber h) (last lane) = all_behind (StandsAtNumber h) (events_of_lane lane phases) (last lane) (holds shard start passes h phases last w whole lane).1 in
+      let same : AllByRecursion (λ x. x.0 ≡ n → x.1 ≡ e) (last lane) = all_weaker (StandsAtNumber h) (λ (x : Numbered). x.0 ≡ n → x.1 ≡ e) (last lane) (λ x s. same_event h front below e x at s) stand in
       let each : AllByRecursion (λ k. k ≡ n → IsAmong (last lane) e) (numbers_of (last lane)) =
       all_reverse (λ k. k ≡ n → IsAmong (last lane) e) (map (λ (x : Numbered). x.0) (last lane)) (all_mapped (λ k. k ≡ n → IsAmong (last lane) e) (λ (x : Numbered). x.0) (last lane) (among e n (last lane) same)) in
       in_front (λ k. k ≡ n → IsAmong (last lane) e) n (length g.printed) (numbers_of (last lane)) (numbers lane g.printed) news.0 (numbers lane below) split (all_under lane g.printed)
@@ -65,5 +65,5 @@ later_is_last shard start passes h phases last w whole g = all_last shard start 
 
 pub later_is_in_order : LaterIsInOrder
 later_is_in_order shard start passes h phases last w whole g lane phase =
-    lane_added phase lane h g.printed g.later (last lane) ([], g.whole) (all_behind (StandsIn h) (events_of_lane lane phases) (last lane) (holds shard start passes h phases last w whole lane).1)
+    lane_added phase lane h g.printed g.later (last lane) ([], g.whole) (all_behind (StandsAtNumber h) (events_of_lane lane phases) (last lane) (holds shard start passes h phases last w whole lane).1)
     (ap (numbers lane) g.whole ∙ g.last_are lane)

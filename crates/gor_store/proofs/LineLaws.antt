@@ -13,7 +13,7 @@ use Rattle.gor_hall.specs.Passes.{lane_of}
 use Rattle.gor_finish.specs.Flushes.{IsFlush, take_made, take_refused, done_made, stop_made}
 use Rattle.gor_finish.specs.declared.reply.FlushReply.{FlushReply}
 use Rattle.gor_finish.specs.declared.reply.FlushReply.TheVariants as flushed
-use Rattle.gor_steps.specs.Points.{Makes, said, GetRefused}
+use Rattle.gor_steps.specs.Points.{MakesOne, said, GetRefused}
 use Rattle.gor_steps.specs.declared.gets.GetFault.{GetFault}
 use Rattle.gor_steps.specs.declared.gets.GetFault.TheVariants as get
 use Rattle.gor_steps.specs.Puts.{put_reply, PutRefused}
@@ -30,7 +30,7 @@ use Rattle.gor_text.specs.declared.answer.What.TheVariants as what_
 use Rattle.gor_text.specs.declared.workload.Line.{Line}
 use Rattle.gor_text.specs.declared.workload.Line.TheVariants as line_
 use Rattle.gor_text.specs.LineAnswers.{Act, Made, Refused, LineAnswers, Flushes, FollowsPut, EndsTake}
-use Rattle.gor_store.specs.Lines.{IsResting, RestsAgain, HasRun, Prints, IsTold, IsPutTold, IsFlushTold, HasTold, ServesLine, FollowsDue, is_due, flush_told}
+use Rattle.gor_store.specs.Lines.{IsResting, RestsAgain, HasRun, Prints, IsTold, IsPutTold, IsFlushTold, HasTold, ServesLine, FollowsDue, tells_due, flush_told}
 use Rattle.gor_store.specs.LineParts.{AreBegun, HasActed, HasFlushedOnce, HasBegun}
 use Rattle.gor_store.specs.declared.lines.PutTold.{PutTold}
 use Rattle.gor_store.proofs.LineParts.{none_begun}
@@ -87,7 +87,7 @@ told_range shard name spelt from to first last old new f rests named refused whi
 -- ---- one event
 
 pub told_event : (line : Line) (name : List ℕ) (old new : Pass) (n : ℕ) (c : Call) (r : Reply) → LineAnswers 1 line (Made (shard_of name 1) n c r ∷ [])
-    → Makes old n c r new → IsTold line old new (what_.Event 0 n r)
+    → MakesOne old n c r new → IsTold line old new (what_.Event 0 n r)
 told_event line name old new n c r may makes = record {
   acts = Made 0 n c r ∷ [];
   events = (n, said (lane_of old) makes.slot c r) ∷ [];
@@ -98,15 +98,15 @@ told_event line name old new n c r may makes = record {
 }
 
 pub told_get : (name spelt : List ℕ) (from to : ℕ) (old new : Pass) (n : ℕ) (r : Reply) → spelt ≡ name → IsName name → from ≤ to
-    → Makes old n (call.Get (key_of spelt) from to) r new → IsTold (line_.Get name from to) old new (what_.Event 0 n r)
-told_get name spelt from to old new n r same is range made = let makes = subst (λ (k : List ℕ). Makes old n (call.Get (key_of k) from to) r new) same made in told_event (line_.Get name from to) name old new n (call.Get (key_of name) from to) r (LineAnswers.get name from to n r is range) makes
+    → MakesOne old n (call.Get (key_of spelt) from to) r new → IsTold (line_.Get name from to) old new (what_.Event 0 n r)
+told_get name spelt from to old new n r same is range made = let makes = subst (λ (k : List ℕ). MakesOne old n (call.Get (key_of k) from to) r new) same made in told_event (line_.Get name from to) name old new n (call.Get (key_of name) from to) r (LineAnswers.get name from to n r is range) makes
 
 pub told_del : (name spelt : List ℕ) (old new : Pass) (n : ℕ) (r : Reply) → spelt ≡ name → IsName name
-    → Makes old n (call.Del (key_of spelt)) r new → IsTold (line_.Del name) old new (what_.Event 0 n r)
-told_del name spelt old new n r same is made = let makes = subst (λ (k : List ℕ). Makes old n (call.Del (key_of k)) r new) same made in told_event (line_.Del name) name old new n (call.Del (key_of name)) r (LineAnswers.del name n r is) makes
+    → MakesOne old n (call.Del (key_of spelt)) r new → IsTold (line_.Del name) old new (what_.Event 0 n r)
+told_del name spelt old new n r same is made = let makes = subst (λ (k : List ℕ). MakesOne old n (call.Del (key_of k)) r new) same made in told_event (line_.Del name) name old new n (call.Del (key_of name)) r (LineAnswers.del name n r is) makes
 
 -- what follows a put by its answer is what follows it by whether it is due
-follows_due : (a : PutAnswer) (rest : List Act) → FollowsDue (is_due a) rest → FollowsPut 0 (put_reply a) rest
+follows_due : (a : PutAnswer) (rest : List Act) → FollowsDue (tells_due a) rest → FollowsPut 0 (put_reply a) rest
 follows_due (answer.Stored true) rest f = f
 follows_due (answer.Stored false) rest f = f
 follows_due (answer.Late last) rest f = f
@@ -114,10 +114,10 @@ follows_due (answer.Closed floor) rest f = f
 follows_due (answer.Full slots) rest f = f
 follows_due answer.Stopped rest f = f
 
-pub told_put : (name spelt : List ℕ) (time word : ℕ) (old new : Pass) (n : ℕ) (a : PutAnswer) (put : PutTold) → put.what ≡ what_.Event 0 n (put_reply a) → put.due ≡ is_due a
-    → spelt ≡ name → IsName name → time ≤ greatest_time → Makes old n (call.Put spelt (key_of spelt) time word) (put_reply a) new → IsPutTold name time word old new put
+pub told_put : (name spelt : List ℕ) (time word : ℕ) (old new : Pass) (n : ℕ) (a : PutAnswer) (put : PutTold) → put.what ≡ what_.Event 0 n (put_reply a) → put.due ≡ tells_due a
+    → spelt ≡ name → IsName name → time ≤ greatest_time → MakesOne old n (call.Put spelt (key_of spelt) time word) (put_reply a) new → IsPutTold name time word old new put
 told_put name spelt time word old new n a put is due same named early made =
-    let makes = subst (λ (k : List ℕ). Makes old n (call.Put k (key_of k) time word) (put_reply a) new) same made in record {
+    let makes = subst (λ (k : List ℕ). MakesOne old n (call.Put k (key_of k) time word) (put_reply a) new) same made in record {
       acts = Made 0 n (call.Put name (key_of name) time word) (put_reply a) ∷ [];
       events = (n, said (lane_of old) makes.slot (call.Put name (key_of name) time word) (put_reply a)) ∷ [];
       may = λ rest follows. subst (λ (s : ℕ). LineAnswers 1 (line_.Put name time word) (Made s n (call.Put name (key_of name) time word) (put_reply a) ∷ rest)) (shard_zero name)

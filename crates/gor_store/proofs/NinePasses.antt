@@ -21,11 +21,11 @@ use Rattle.gor_text.specs.declared.workload.Line.TheVariants.{Put, Get, Del, Flu
 use Rattle.gor_store.specs.declared.phases.Lane.{Lane}
 use Rattle.gor_store.specs.Lines.{IsResting, RestsAgain, need}
 use Rattle.gor_store.specs.Lanes.{AreTaken, needs}
-use Rattle.gor_store.specs.Phases.{passes_of as passes_of_lanes, lines_at, AreReady, HaveRested, RanPhase, RanInPart}
-use Rattle.gor_store.specs.Shards.{AreFirst, AreIdle}
+use Rattle.gor_store.specs.Phases.{passes_of_lanes, lines_at, AreReady, HaveRested, RanPhase, RanInPart}
+use Rattle.gor_store.specs.Shards.{AreFirstPasses, AreIdle}
 use Rattle.gor_store.specs.Stories.{LaneRun, events_at}
 use Rattle.gor_store.specs.Closings.{only_last}
-use Rattle.gor_store.specs.Stores.{passes_with, AreSeated, HaveLeft, HaveLeftFor, HaveMadeNothing, HasLeft, HasLeftFor, ClosingHasLeft, lines_of_lanes}
+use Rattle.gor_store.specs.Stores.{passes_with, AreSeated, HaveLeft, HaveLeftFor, HaveMadeNothing, PassesHaveLeft, HasLeftFor, ClosingHasLeft, lines_of_lanes}
 use Rattle.gor_store.specs.declared.store.Store.{Store}
 use Rattle.gor_store.specs.Works.{HasAdded, HaveAdded}
 
@@ -89,7 +89,7 @@ no_lane (r ∷ runs) = no_lane runs
 -- ---- the passes rest
 
 module _ {V : Type 0} (hall : Hall V) where
-  pub first_seated : (passes : List Pass) → AreFirst hall 9 passes → AreSeated hall passes
+  pub first_seated : (passes : List Pass) → AreFirstPasses hall 9 passes → AreSeated hall passes
   first_seated passes first k p at =
       let f : IsFirstPass hall k p = first.each k p at in
       let is = f.3 in (
@@ -102,10 +102,10 @@ module _ {V : Type 0} (hall : Hall V) where
         },
       )
 
-  pub first_made : (passes : List Pass) → AreFirst hall 9 passes → HaveMadeNothing passes
+  pub first_made : (passes : List Pass) → AreFirstPasses hall 9 passes → HaveMadeNothing passes
   first_made passes first k p at = ap (λ (v : View). v.mine) (first.each k p at).3
 
-  pub first_left : (passes : List Pass) → AreFirst hall 9 passes → HaveLeft (2 ^ 40) passes
+  pub first_left : (passes : List Pass) → AreFirstPasses hall 9 passes → HaveLeft (2 ^ 40) passes
   first_left passes first k p at = let is = (first.each k p at).2 in omega (arith, is)
 
   pub seated_idle : (passes : List Pass) → length passes ≡ 9 → lanes_of hall ≡ 9 → AreSeated hall passes → AreIdle hall passes
@@ -185,7 +185,7 @@ lane_few [] k = omega arith
 lane_few (lines ∷ phase) zero = let s = sum_by-cons length lines phase in omega (arith, s)
 lane_few (lines ∷ phase) (suc k) = let s = sum_by-cons length lines phase in let few = lane_few phase k in omega (arith, s, few)
 
-pub left_for : {D : Type 0} (phase : List (List Line)) (store : Store D) → HasLeft (32776 * lines_of_lanes phase) store → HasLeftFor phase store
+pub left_for : {D : Type 0} (phase : List (List Line)) (store : Store D) → PassesHaveLeft (32776 * lines_of_lanes phase) store → HasLeftFor phase store
 left_for phase store left k p at = let enough = left k p at in let most = needs_most (lines_at phase k) in let few = lane_few phase k in omega (arith, enough, most, few)
 
 -- ---- a phase of nine passes
@@ -221,7 +221,7 @@ pass_at (l ∷ lanes) closing (suc i) lane low is = pass_at lanes closing i lane
 pub closing_at : (lanes : List Lane) (closing : Pass) → slice_get (passes_with lanes closing) (length (passes_of_lanes lanes)) ≡ Some closing
 closing_at lanes closing = at_last (passes_of_lanes lanes) closing
 
-pub closing_left : {D : Type 0} (n : ℕ) (store : Store D) → HasLeft n store → ClosingHasLeft n store
+pub closing_left : {D : Type 0} (n : ℕ) (store : Store D) → PassesHaveLeft n store → ClosingHasLeft n store
 closing_left n store left = left (length (passes_of_lanes store.lanes.items)) store.closing (closing_at store.lanes.items store.closing)
 
 pub made_more : (lanes : List Lane) (i : ℕ) (lane : Lane) (events more : ℕ) → i < length lanes → lane ≡ get_or lanes i lane → events ≡ sum_by (λ (l : Lane). length (made l.pass)) (take i lanes) → more ≡ length (made lane.pass)

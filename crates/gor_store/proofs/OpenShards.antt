@@ -12,7 +12,7 @@ use Rattle.gor_flush.specs.declared.device.Device.{Device}
 use Rattle.gor_flush.specs.declared.part.Part.{Part}
 use Rattle.gor_flush.specs.declared.part.Part.TheVariants as part
 use Rattle.gor_flush.proofs.PartKinds.{is_device}
-use Rattle.gor_flush.specs.Devices.{shown}
+use Rattle.gor_flush.specs.Devices.{device_shown}
 use Rattle.gor_flush.specs.Starts.{opened_start, start_with}
 use Rattle.gor_flush.specs.FitTest.{is_fit}
 use Rattle.gor_recover.specs.declared.recovered.Recovered.{Recovered}
@@ -29,9 +29,9 @@ opened_as slots r a b c d e f g h x y first second third fourth fifth =
     ∙ ap (λ n. opened_start slots r b d f n (is_fit b d x)) fourth ∙ ap (λ (z : Contents). opened_start slots r b d f h (is_fit b d z)) fifth
 
 pub start_same : {D : Type 0} (tells : Bool) (disk : D → DiskView) (faults : D → ℕ) (s slots : ℕ) (q r : Recovered) (d device : Device D) → s ≡ slots → q ≡ r → d ≡ device
-    → start_with s q (shown tells disk faults d) ≡ start_with slots r (shown tells disk faults device)
+    → start_with s q (device_shown tells disk faults d) ≡ start_with slots r (device_shown tells disk faults device)
 start_same {D} tells disk faults s slots q r d device a b c =
-    ap (λ x. start_with x q (shown tells disk faults d)) a ∙ ap (λ x. start_with slots x (shown tells disk faults d)) b ∙ ap (λ (x : Device D). start_with slots r (shown tells disk faults x)) c
+    ap (λ x. start_with x q (device_shown tells disk faults d)) a ∙ ap (λ x. start_with slots x (device_shown tells disk faults d)) b ∙ ap (λ (x : Device D). start_with slots r (device_shown tells disk faults x)) c
 
 module _ {D : Type 0} (tells : Bool) (disk : D → DiskView) (faults : D → ℕ) (start : Start) (h : History) where
   first_is : (x : Part D) (xs : List (Part D)) → AllStand (part_stands tells disk faults) start (x ∷ xs) h → (d : Device D) × IsFirst d (x ∷ xs)

@@ -23,7 +23,7 @@ use Rattle.gor_store.specs.Works.{HasAdded}
 use Rattle.gor_store.specs.Lines.{HasRun, RestsAgain}
 use Rattle.gor_store.specs.LineParts.{ArePart}
 use Rattle.gor_store.specs.Lanes.{RunsLane, MadeFrom}
-use Rattle.gor_store.specs.Phases.{lines_at, passes_of, answers_of, IsReady, AreReady, HasWorked, HaveTold, HaveRested, RanPhase, RanInPart}
+use Rattle.gor_store.specs.Phases.{lines_at, passes_of_lanes, answers_of, IsReadyForLines, AreReady, HasWorked, HaveTold, HaveRested, RanPhase, RanInPart}
 use Rattle.gor_store.proofs.LineParts.{none_part, whole_part}
 use Rattle.gor_store.proofs.Works.{added_newest_first}
 
@@ -77,7 +77,7 @@ record LanesRan (k : ℕ) (phase : List (List Line)) (before : ℕ) (olds news :
   pub served : map (λ r. map (λ s. s.line) r.served) runs ≡ phase
   pub answered : AllByRecursion (λ r. AllByRecursion (λ s. LineAnswers 1 s.line s.acts) r.served) runs
   pub from : AllByRecursion (λ r. AllFrom before r.events) runs
-  pub added : (i : ℕ) → Adds (passes_of olds) (passes_of news) (λ k. events_at k runs) i
+  pub added : (i : ℕ) → Adds (passes_of_lanes olds) (passes_of_lanes news) (λ k. events_at k runs) i
   pub tells : answers_of news ≡ phase_answers k (map (λ r. r.served) runs)
 
 ran_first : (k : ℕ) (lines : List Line) (phase : List (List Line)) (before : ℕ) (old new : Lane) (olds news : List Lane) → LaneRan k lines before old new → LanesRan (k + 1) phase before olds news
@@ -90,7 +90,7 @@ ran_first k lines phase before old new olds news here there =
       served = λ i. r.are.0 i ∷ there.served i;
       answered = (r.are.1, there.answered);
       from = (r.from, there.from);
-      added = adds_first old.pass new.pass (passes_of olds) (passes_of news) (λ i. events_at i (run ∷ there.runs)) (added_of old.pass new.pass run.events here.lane r.made) there.added;
+      added = adds_first old.pass new.pass (passes_of_lanes olds) (passes_of_lanes news) (λ i. events_at i (run ∷ there.runs)) (added_of old.pass new.pass run.events here.lane r.made) there.added;
       tells = flat_map-cons (λ (lane : Lane). lane.answers.items) new news
           ∙ (ap (λ (z : List LaneAnswer). z ++ answers_of news) (r.tells ∙ ap (λ (l : ℕ). lane_answers l run.served) here.own)
           ∙ ap (λ (z : List LaneAnswer). lane_answers k run.served ++ z) there.tells);
@@ -109,9 +109,9 @@ lanes_ran k (lines ∷ phase) before (old ∷ olds) (new ∷ news) same as_many 
     (lanes_ran (k + 1) phase before olds news (omega (arith, same)) (omega (arith, as_many))
     (λ i d low. subst (λ (n : ℕ). LaneRan n (lines_at phase i) before (get_or olds i d) (get_or news i d)) (omega arith) (each (suc i) d (omega (arith, low)))))
 
-ran_phase : (phase : List (List Line)) (before : ℕ) (olds news : List Lane) (after : List Pass) (told : List LaneAnswer) → length phase ≡ 8 → length news ≡ length olds → passes_of news ≡ after → told ≡ answers_of news
-    → LanesRan 0 phase before olds news → RanPhase phase before (passes_of olds) after told
-ran_phase phase before olds news after told eight as_many passes is a = subst (λ (ps : List Pass). RanPhase phase before (passes_of olds) ps told) passes (record {
+ran_phase : (phase : List (List Line)) (before : ℕ) (olds news : List Lane) (after : List Pass) (told : List LaneAnswer) → length phase ≡ 8 → length news ≡ length olds → passes_of_lanes news ≡ after → told ≡ answers_of news
+    → LanesRan 0 phase before olds news → RanPhase phase before (passes_of_lanes olds) after told
+ran_phase phase before olds news after told eight as_many passes is a = subst (λ (ps : List Pass). RanPhase phase before (passes_of_lanes olds) ps told) passes (record {
   runs = a.runs;
   eight = a.count ∙ eight;
   are = a.are;
@@ -130,7 +130,7 @@ record LanesMade (lane : ℕ → ℕ) (lines : ℕ → List Line) (before : ℕ)
   pub count : length events ≡ length olds
   pub from : (i : ℕ) → AllFrom before (get_or events i [])
   pub of : (i : ℕ) → ArePart (lane i) (lines i) (get_or events i [])
-  pub added : (i : ℕ) → Adds (passes_of olds) (passes_of news) (λ k. get_or events k []) i
+  pub added : (i : ℕ) → Adds (passes_of_lanes olds) (passes_of_lanes news) (λ k. get_or events k []) i
 
 record LaneMade (lane : ℕ) (lines : List Line) (before : ℕ) (old new : Lane) : Type 0 where
   pub own : lane_of old.pass ≡ lane
@@ -146,7 +146,7 @@ made_first lane lines before old new olds news here there =
       count = ap suc there.count;
       from = first_or (λ (i : ℕ). AllFrom before (get_or (events ∷ there.events) i [])) (all_reverse (λ (e : Numbered). before ≤ e.0) m.events m.from) there.from;
       of = first_or (λ (i : ℕ). ArePart (lane i) (lines i) (get_or (events ∷ there.events) i [])) (subst (λ (l : ℕ). ArePart l (lines zero) events) here.own m.of) there.of;
-      added = adds_first old.pass new.pass (passes_of olds) (passes_of news) (λ i. get_or (events ∷ there.events) i [])
+      added = adds_first old.pass new.pass (passes_of_lanes olds) (passes_of_lanes news) (λ i. get_or (events ∷ there.events) i [])
           (added_newest_first old.pass new.pass m.events here.same m.run.begins m.run.made_is m.run.each) there.added;
     }
 
@@ -159,11 +159,11 @@ lanes_made lane lines before (old ∷ olds) (new ∷ news) as_many each =
     made_first lane lines before old new olds news (each zero old (omega arith))
     (lanes_made (λ i. lane (suc i)) (λ i. lines (suc i)) before olds news (omega (arith, as_many)) (λ i d low. each (suc i) d (omega (arith, low))))
 
-ran_in_part : (phase : List (List Line)) (before : ℕ) (olds news : List Lane) (after : List Pass) → length olds ≡ 8 → length news ≡ length olds → passes_of news ≡ after
-    → ((i : ℕ) (d : Lane) → i < length olds → LaneMade i (lines_at phase i) before (get_or olds i d) (get_or news i d)) → RanInPart phase before (passes_of olds) after
+ran_in_part : (phase : List (List Line)) (before : ℕ) (olds news : List Lane) (after : List Pass) → length olds ≡ 8 → length news ≡ length olds → passes_of_lanes news ≡ after
+    → ((i : ℕ) (d : Lane) → i < length olds → LaneMade i (lines_at phase i) before (get_or olds i d) (get_or news i d)) → RanInPart phase before (passes_of_lanes olds) after
 ran_in_part phase before olds news after eight as_many passes each =
     let a = lanes_made (λ i. i) (lines_at phase) before olds news as_many each in
-    subst (RanInPart phase before (passes_of olds)) passes (record {
+    subst (RanInPart phase before (passes_of_lanes olds)) passes (record {
       more = λ i. get_or a.events i [];
       added = record { as_many = length-map news (λ (l : Lane). l.pass) ∙ (as_many ∙ sym (length-map olds (λ (l : Lane). l.pass))); each = a.added };
       from = a.from;
@@ -174,20 +174,20 @@ ran_in_part phase before olds news after eight as_many passes each =
 -- ---- the passes rest
 
 -- a pass by its place, as that of a lane
-lane_at : (lanes : List Lane) (k : ℕ) (p : Pass) → slice_get (passes_of lanes) k ≡ Some p → (lane : Lane) × (k < length lanes) × ((d : Lane) → (get_or lanes k d).pass ≡ p)
+lane_at : (lanes : List Lane) (k : ℕ) (p : Pass) → slice_get (passes_of_lanes lanes) k ≡ Some p → (lane : Lane) × (k < length lanes) × ((d : Lane) → (get_or lanes k d).pass ≡ p)
 lane_at [] k p e = absurd (none_some p e)
 lane_at (lane ∷ lanes) zero p e = (lane, omega arith, λ d. same_some lane.pass p e)
 lane_at (lane ∷ lanes) (suc k) p e = let a = lane_at lanes k p e in (a.0, omega (arith, a.1), a.2)
 
-pub pass_at : (lanes : List Lane) (k : ℕ) (d : Lane) → k < length lanes → slice_get (passes_of lanes) k ≡ Some (get_or lanes k d).pass
+pub pass_at : (lanes : List Lane) (k : ℕ) (d : Lane) → k < length lanes → slice_get (passes_of_lanes lanes) k ≡ Some (get_or lanes k d).pass
 pass_at [] k d low = absurd (omega (arith, low))
 pass_at (lane ∷ lanes) zero d low = refl
 pass_at (lane ∷ lanes) (suc k) d low = pass_at lanes k d (omega (arith, low))
 
 module _ {V : Type 0} (shard : Hall V) (phase : List (List Line)) (olds news : List Lane) (as_many : length news ≡ length olds)
     (each : (i : ℕ) (d : Lane) → i < length olds → RestsAgain shard (3 * length (lines_at phase i)) (get_or olds i d).pass (get_or news i d).pass) where
-  have_rested : (after : List Pass) → passes_of news ≡ after → HaveRested shard phase (passes_of olds) after
-  have_rested after passes = subst (HaveRested shard phase (passes_of olds)) passes (record {
+  have_rested : (after : List Pass) → passes_of_lanes news ≡ after → HaveRested shard phase (passes_of_lanes olds) after
+  have_rested after passes = subst (HaveRested shard phase (passes_of_lanes olds)) passes (record {
     as_many = length-map news (λ (l : Lane). l.pass) ∙ (as_many ∙ sym (length-map olds (λ (l : Lane). l.pass)));
     each = λ k p q e f.
         let old = lane_at olds k p e in let new = lane_at news k q f in
@@ -198,22 +198,22 @@ module _ {V : Type 0} (shard : Hall V) (phase : List (List Line)) (olds news : L
 -- ---- the whole phase, whose lines were handed on as a list of this
 
 module _ {V : Type 0} (shard : Hall V) (phase : Phase) (given : List (Vec Line Global)) (same : given ≡ phase.lanes.items) (olds : List Lane) (eight : length olds ≡ 8) (lines : length (phase_lines phase) ≡ 8)
-    (ready : AreReady shard (phase_lines phase) (passes_of olds)) where
-  pub ready_for : (i : ℕ) (d : Lane) → i < length olds → (i < length given) × IsReady shard (lines_at (map (λ (v : Vec Line Global). v.items) given) i) (get_or olds i d).pass
+    (ready : AreReady shard (phase_lines phase) (passes_of_lanes olds)) where
+  pub ready_for : (i : ℕ) (d : Lane) → i < length olds → (i < length given) × IsReadyForLines shard (lines_at (map (λ (v : Vec Line Global). v.items) given) i) (get_or olds i d).pass
   ready_for i d low =
       let long : length (phase_lines phase) ≡ length phase.lanes.items = length-map phase.lanes.items (λ (v : Vec Line Global). v.items) in
-      subst (λ (vs : List (Vec Line Global)). (i < length vs) × IsReady shard (lines_at (map (λ (v : Vec Line Global). v.items) vs) i) (get_or olds i d).pass) (sym same)
+      subst (λ (vs : List (Vec Line Global)). (i < length vs) × IsReadyForLines shard (lines_at (map (λ (v : Vec Line Global). v.items) vs) i) (get_or olds i d).pass) (sym same)
       (omega (arith, long, lines, eight, low), (ready i (get_or olds i d).pass (pass_at olds i d low)).1)
 
   module _ (before : ℕ) (mids : List Lane) (after : List Pass) (as_many : length mids ≡ length olds)
-      (worked_given : (i : ℕ) (d : Lane) → i < length olds → HasWorked shard (lines_at (map (λ (v : Vec Line Global). v.items) given) i) before (get_or olds i d) (get_or mids i d)) (passes : after ≡ passes_of mids) where
+      (worked_given : (i : ℕ) (d : Lane) → i < length olds → HasWorked shard (lines_at (map (λ (v : Vec Line Global). v.items) given) i) before (get_or olds i d) (get_or mids i d)) (passes : after ≡ passes_of_lanes mids) where
     work : (i : ℕ) (d : Lane) → i < length olds → HasWorked shard (lines_at (phase_lines phase) i) before (get_or olds i d) (get_or mids i d)
     work i d low = subst (λ (vs : List (Vec Line Global)). HasWorked shard (lines_at (map (λ (v : Vec Line Global). v.items) vs) i) before (get_or olds i d) (get_or mids i d)) same (worked_given i d low)
 
-    pub phase_rests : HaveRested shard (phase_lines phase) (passes_of olds) after
+    pub phase_rests : HaveRested shard (phase_lines phase) (passes_of_lanes olds) after
     phase_rests = have_rested shard (phase_lines phase) olds mids as_many (λ i d low. (work i d low).rests) after (sym passes)
 
-    pub phase_ran : (told : List LaneAnswer) → HaveTold mids told → RanPhase (phase_lines phase) before (passes_of olds) after told
+    pub phase_ran : (told : List LaneAnswer) → HaveTold mids told → RanPhase (phase_lines phase) before (passes_of_lanes olds) after told
     phase_ran told t = ran_phase (phase_lines phase) before olds mids after told lines as_many (sym passes) t.1 (lanes_ran 0 (phase_lines phase) before olds mids (lines ∙ sym eight) as_many (λ i d low.
         let w = work i d low in record {
           own = (ready i (get_or olds i d).pass (pass_at olds i d low)).0 ∙ omega arith;
@@ -221,6 +221,6 @@ module _ {V : Type 0} (shard : Hall V) (phase : Phase) (given : List (Vec Line G
           ran = w.runs (t.0 i d (omega (arith, low, as_many)));
         }))
 
-    pub phase_in_part : RanInPart (phase_lines phase) before (passes_of olds) after
+    pub phase_in_part : RanInPart (phase_lines phase) before (passes_of_lanes olds) after
     phase_in_part = ran_in_part (phase_lines phase) before olds mids after eight as_many (sym passes)
         (λ i d low. let w = work i d low in record { own = (ready i (get_or olds i d).pass (pass_at olds i d low)).0; same = w.rests.lane; made = w.some })

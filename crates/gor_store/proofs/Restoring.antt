@@ -13,7 +13,7 @@ use Rattle.gor_model.specs.Starts.{AreApart, IsRow, IsStart, IsFloor}
 use Rattle.gor_model.specs.declared.start.Row.{Row}
 use Rattle.gor_model.specs.declared.start.Start.{Start}
 use Rattle.gor_model.proofs.SlotLaws.{bytes_tell}
-use Rattle.gor_dir.specs.Listings.{Listing, Stands, shown}
+use Rattle.gor_dir.specs.Listings.{Listing, ListingStands, directory_shown}
 use Rattle.gor_dir.specs.Restores.{AddsRow}
 use Rattle.gor_dir.proofs.StartSteps.{absent_in_start, free_in_start, adds_last}
 use Rattle.gor_recover.specs.Recovered.{keyed_row, row_of, recovered_start}
@@ -24,7 +24,7 @@ use Rattle.gor_store.proofs.Places.{map_longer, map_parted, there, first_apart, 
 
 -- what a restore says, of a copy of the row's name
 pub restores_row : {E : Type 0} (result : Result Unit E) (old new : Listing) (name : List ℕ) (r : RecoveredRow) → name ≡ r.name
-    → OnOk result ((before after : Start) (row : Row) → row.name ≡ name → row.slot ≡ r.slot → row.uid ≡ r.uid → AddsRow before row after → Stands old (directory_share before []) → Stands new (directory_share after []))
+    → OnOk result ((before after : Start) (row : Row) → row.name ≡ name → row.slot ≡ r.slot → row.uid ≡ r.uid → AddsRow before row after → ListingStands old (directory_share before []) → ListingStands new (directory_share after []))
     → OnOk result (RestoresRow old new r)
 restores_row (Ok x) old new name r is restores = λ before after adds stands. restores before after (row_of r) (sym is) refl refl adds stands
 restores_row (Err e) old new name r is restores = tt
@@ -47,17 +47,17 @@ module _ (slots : ℕ) (rows : List RecoveredRow) (are : AreRows slots (map keye
   others : AllByRecursion (IsOther (keyed_row r)) (map keyed_row (take i rows))
   others = apart_before (map keyed_row (take i rows)) (keyed_row r) (map keyed_row (drop (suc i) rows)) (subst AreApart (sym (map_parted keyed_row rows i r low is)) are.apart)
 
-  pub next_absent : (d : Listing) → Stands d (directory_share done []) → (shown d).entry (key_of r.name) ≡ None
+  pub next_absent : (d : Listing) → ListingStands d (directory_share done []) → (directory_shown d).entry (key_of r.name) ≡ None
   next_absent d stands = subst (λ (s : DirectoryShare). s.entry (key_of r.name) ≡ None) (sym stands) (absent_in_start done (key_of r.name) (keys_off (map keyed_row (take i rows)) (keyed_row r) others))
 
-  pub next_free : (d : Listing) → Stands d (directory_share done []) → Has (shown d).free r.slot
+  pub next_free : (d : Listing) → ListingStands d (directory_share done []) → Has (directory_shown d).free r.slot
   next_free d stands =
       subst (λ (s : DirectoryShare). Has s.free r.slot) (sym stands)
       (free_in_start done r.slot (there keyed_row (λ q. IsRow slots q.0 q.1) rows i r low is are.each).slot (slots_off (map keyed_row (take i rows)) (keyed_row r) others))
 
-  pub next_row : (old new : Listing) → RestoresRow old new r → Stands old (directory_share done []) → Stands new (directory_share (rows_start slots (map keyed_row (take (i + 1) rows))) [])
+  pub next_row : (old new : Listing) → RestoresRow old new r → ListingStands old (directory_share done []) → ListingStands new (directory_share (rows_start slots (map keyed_row (take (i + 1) rows))) [])
   next_row old new restores stands =
-      subst (λ l. Stands new (directory_share (rows_start slots l) [])) (sym (map_longer keyed_row rows i r low is))
+      subst (λ l. ListingStands new (directory_share (rows_start slots l) [])) (sym (map_longer keyed_row rows i r low is))
       (restores done (rows_start slots (map keyed_row (take i rows) ++ keyed_row r ∷ []))
       (adds_last done (row_of r) (subst AreApart (map_longer keyed_row rows i r low is) (first_apart keyed_row rows (i + 1) are.apart))) stands)
 
@@ -72,7 +72,7 @@ unfolding recovered_start
 floor_is slots r start = start.floor
 
 pub raised_start : (slots : ℕ) (r : Recovered) (rows : List RecoveredRow) (old new : Listing) → rows ≡ r.rows.items → RaisesTo r.floor old new
-    → Stands old (directory_share (rows_start slots (map keyed_row rows)) []) → Stands new (directory_share (recovered_start slots r) [])
+    → ListingStands old (directory_share (rows_start slots (map keyed_row rows)) []) → ListingStands new (directory_share (recovered_start slots r) [])
 unfolding recovered_start unused_slots
 raised_start slots r rows old new is raises stands =
     raises (rows_start slots (map keyed_row rows)) stands ∙ (λ i. directory_share (record { slots = slots; floor = zero-max r.floor i; next = 1; rows = map keyed_row (is i); shards = 0; shard = 0; since = 0; faults = 0; fit = false }) []) ∙ other where

@@ -17,8 +17,8 @@ use Rattle.gor_hall.specs.declared.hall.Hall.{Hall}
 use Rattle.gor_hall.specs.declared.pass.Pass.{Pass}
 use Rattle.gor_hall.specs.Halls.{IsPassOf}
 use Rattle.gor_hall.specs.Passes.{seen, made, held, lane_of, left_of_pass}
-use Rattle.gor_finish.specs.Made.{Numbered, StandsIn, HasMade}
-use Rattle.gor_steps.specs.Points.{said, Makes, MakesNone}
+use Rattle.gor_finish.specs.Made.{Numbered, StandsAtNumber, HasMade}
+use Rattle.gor_steps.specs.Points.{said, MakesOne, MakesNone}
 use Rattle.gor_text.specs.LineAnswers.{Act, Made}
 use Rattle.gor_text.specs.Transcripts.{printed_act}
 use Rattle.gor_store.specs.Stories.{printed_of}
@@ -27,7 +27,7 @@ use Rattle.gor_store.specs.Lines.{IsResting, RestsAgain, HasRun, Prints}
 -- ---- one call
 
 -- a put, get or delete
-pub one_run : (old new : Pass) (n : ℕ) (c : Call) (r : Reply) (m : Makes old n c r new) → HasRun old new ((n, said (lane_of old) m.slot c r) ∷ [])
+pub one_run : (old new : Pass) (n : ℕ) (c : Call) (r : Reply) (m : MakesOne old n c r new) → HasRun old new ((n, said (lane_of old) m.slot c r) ∷ [])
 one_run old new n c r m = let e = m.event in record {
   start = e.start;
   legal = e.legal;
@@ -58,7 +58,7 @@ module _ {V : Type 0} where
 
 -- ---- calls after each other
 
-stands_on : (H K : History) (e : Numbered) → IsBeginning H K → StandsIn H e → StandsIn K e
+stands_on : (H K : History) (e : Numbered) → IsBeginning H K → StandsAtNumber H e → StandsAtNumber K e
 stands_on H K e begins s = (s.0, beginning_trans (e.1 ∷ s.0) H K s.1 begins, s.2)
 
 pub runs_on : (old mid new : Pass) (first later : List Numbered) → lane_of mid ≡ lane_of old → HasRun old mid first → HasRun mid new later → HasRun old new (later ++ first)
@@ -69,7 +69,7 @@ runs_on old mid new first later lane a b = record {
   made_is = b.made_is ∙ (ap (λ (z : List ℕ). map (λ (e : Numbered). e.0) later ++ z) a.made_is ∙ (sym (append_assoc (map (λ (e : Numbered). e.0) later) (map (λ (e : Numbered). e.0) first) (made old))
       ∙ ap (λ (z : List ℕ). z ++ made old) (sym (map-append (λ (e : Numbered). e.0) later first))));
   own = ap (λ (l : ℕ). numbers l (seen new)) (sym lane) ∙ b.own;
-  each = all_joined (StandsIn (seen new)) later first b.each (all_on (seen mid) (seen new) first b.begins a.each);
+  each = all_joined (StandsAtNumber (seen new)) later first b.each (all_on (seen mid) (seen new) first b.begins a.each);
 }
 
 -- ---- a pass rests again

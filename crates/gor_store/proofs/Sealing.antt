@@ -8,7 +8,7 @@ use Rattle.gor_model.specs.Names.{key_of}
 use Rattle.gor_model.specs.Shares.{SeriesShare}
 use Rattle.gor_model.specs.Windows.{window_end, is_kept, kept}
 use Rattle.gor_cell.specs.Packed.{Packed}
-use Rattle.gor_cell.specs.Stands.{Stands}
+use Rattle.gor_cell.specs.Stands.{CellStands}
 use Rattle.gor_cell.specs.Steps.{after_seal}
 use Rattle.gor_recover.specs.declared.recovered.RecoveredRow.{RecoveredRow}
 use Rattle.gor_store.specs.Series.{open_share, share_of_row}
@@ -18,8 +18,8 @@ all_kept floor [] all = refl
 all_kept floor (p ∷ points) all = let here : is_kept floor p ≡ true = all.0 in rw here (ap (λ (l : List Point). p ∷ l) (all_kept floor points all.1))
 
 pub sealed_row : (r : RecoveredRow) (w : ℕ) (new : Option Packed) → window_end w ≡ r.floor → AllByRecursion (λ p. IsTrue (is_kept r.floor p)) r.points
-    → Stands new (Some (after_seal w (open_share r r.points))) → Stands new (Some (share_of_row r))
-sealed_row r w new end all stands = subst (λ (s : SeriesShare). Stands new (Some s)) same stands where
+    → CellStands new (Some (after_seal w (open_share r r.points))) → CellStands new (Some (share_of_row r))
+sealed_row r w new end all stands = subst (λ (s : SeriesShare). CellStands new (Some s)) same stands where
   floor_is : max 0 (window_end w) ≡ r.floor
   floor_is = zero-max (window_end w) ∙ end
 

@@ -15,7 +15,7 @@ use Rattle.gor_model.proofs.KeptLaws.{changes_split}
 use Rattle.gor_model.proofs.NumberedLaws.{device_at}
 use Rattle.gor_image.specs.Fit.{IsFitFor, FitHolds}
 use Rattle.gor_recover.specs.declared.recovered.Recovered.{Recovered}
-use Rattle.gor_flush.specs.Devices.{Shown, shown, device_stands, StandsFor, RunsBy, IsRunning, SettledBy, IsSettled, HoldsAll, HoldsPrefix, HoldsExactly, Prefixes, NoneAbove, Kept, last_count}
+use Rattle.gor_flush.specs.Devices.{Shown, device_shown, device_stands, DeviceStandsFor, RunsBy, IsRunning, SettledBy, DeviceIsSettled, HoldsAll, HoldsPrefix, HoldsExactly, Prefixes, NoneAbove, DonesAreKept, last_count}
 use Rattle.gor_flush.specs.Starts.{opened_start}
 use Rattle.gor_flush.specs.FitTest.{is_fit}
 use Rattle.gor_flush.proofs.FitTests.{fit_is_told}
@@ -149,12 +149,12 @@ module _ (d : Shown) (start : Start) (h : History) where
   of_all : (n : ℕ) (image : Contents) → HoldsPrefix d.shards d.shard start (changes (before_take h)) n image → HoldsPrefix d.shards d.shard start (changes h) n image
   of_all n image held = subst (λ (C : List Change). HoldsPrefix d.shards d.shard start C n image) (sym (changes_split h)) (longer d.shards d.shard start (changes (before_take h)) image (changes (since_take h)) n held)
 
-  each_kept : (dones : List DoneAt) → Kept d start (changes (before_take h)) dones
+  each_kept : (dones : List DoneAt) → DonesAreKept d start (changes (before_take h)) dones
       → AllByRecursion (λ done. (d.opened ≤ done.moment) × (done.moment ≤ d.disk.moment) × HoldsSince d.shards d.shard done.moment d.disk start h done.count) dones
   each_kept [] kept = tt
   each_kept (done ∷ older) kept = ((kept.0, kept.1, λ k image low high is. of_all done.count image (kept.2 k image low high is)), each_kept older kept.4)
 
-  last_kept : (dones : List DoneAt) → d.opened ≤ d.disk.moment → Prefixes d start (changes (before_take h)) → Kept d start (changes (before_take h)) dones
+  last_kept : (dones : List DoneAt) → d.opened ≤ d.disk.moment → Prefixes d start (changes (before_take h)) → DonesAreKept d start (changes (before_take h)) dones
       → HoldsSince d.shards d.shard d.disk.moment d.disk start h (last_count dones)
   last_kept [] since prefixes kept k image low high is = of_all 0 image (prefixes k image (omega (arith, since, low)) high is)
   last_kept (done ∷ older) since prefixes kept k image low high is = let come = kept.1 in of_all done.count image (kept.2 k image (omega (arith, come, low)) high is)
@@ -163,15 +163,15 @@ module _ (d : Shown) (start : Start) (h : History) where
   older_low done last [] low none = tt
   older_low done last (o ∷ older) low none = (omega (arith, none.0, low.0), omega (arith, none.1, low.1))
 
-  none_above : (done : DoneAt) (older : List DoneAt) → NoneAbove done older → Kept d start (changes (before_take h)) older → AllByRecursion (NeverFalls done) older
+  none_above : (done : DoneAt) (older : List DoneAt) → NoneAbove done older → DonesAreKept d start (changes (before_take h)) older → AllByRecursion (NeverFalls done) older
   none_above done [] none kept = tt
   none_above done (o ∷ older) none kept = (none, none_above done older (older_low done o older none kept.3) kept.4)
 
-  never_fall : (dones : List DoneAt) → Kept d start (changes (before_take h)) dones → EachBefore NeverFalls dones
+  never_fall : (dones : List DoneAt) → DonesAreKept d start (changes (before_take h)) dones → EachBefore NeverFalls dones
   never_fall [] kept = tt
   never_fall (done ∷ older) kept = (none_above done older kept.3 kept.4, never_fall older kept.4)
 
-  module _ (stood : StandsFor d start (device_share start h)) (t : IsTrue d.tells) (fit : start.fit ≡ true) where
+  module _ (stood : DeviceStandsFor d start (device_share start h)) (t : IsTrue d.tells) (fit : start.fit ≡ true) where
     holds : HoldsAll d start (device_share start h)
     holds = stood.images t fit
 
@@ -187,7 +187,7 @@ module _ (d : Shown) (start : Start) (h : History) where
       runs : IsRunning d start (device_share start h)
       runs = subst (λ (b : Bool). RunsBy b d start (device_share start h)) going stood.runs
 
-      settled : IsSettled d start (device_share start h)
+      settled : DeviceIsSettled d start (device_share start h)
       settled = subst (λ (b : Bool). SettledBy b d start (device_share start h)) going holds.now
 
       exactly : (image : Contents) → HoldsExactly d start (changes (before_take h)) (last_count (dones_of h)) image → FitHolds d.shards d.shard image start (changes h)
@@ -244,9 +244,9 @@ module _ {D : Type 0} (tells : Bool) (view : D → DiskView) (faults : D → ℕ
   h = closed.history
 
   abbrev d : Shown
-  d = shown tells view faults closed.device
+  d = device_shown tells view faults closed.device
 
-  stood : StandsFor d start (device_share start h)
+  stood : DeviceStandsFor d start (device_share start h)
   stood = subst (device_stands start 0 d) (device_at start h) closed.stands
 
   -- whose disk it is, when it was opened, and what it tells

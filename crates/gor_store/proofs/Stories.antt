@@ -16,8 +16,8 @@ use Rattle.gor_model.proofs.Lists.{all_joined, all_weaker, all_reverse, all_mapp
 use Rattle.gor_rule.specs.Rule.{numbers}
 use Rattle.gor_text.specs.Interleaved.{PhaseMade, PhasesMade}
 use Rattle.gor_text.proofs.Interleavings.{is_printed}
-use Rattle.gor_finish.specs.Made.{Numbered, StandsIn}
-use Rattle.gor_store.specs.Stories.{LaneRun, AreRuns, events_at, events_of_lane, numbers_of, count_of, count_all, AllFrom, PhasesAfter, StoryBegins, served_in, HistoryBegins, OneHistoryBegins, IsStory, IsOneHistory, OneHistory}
+use Rattle.gor_finish.specs.Made.{Numbered, StandsAtNumber}
+use Rattle.gor_store.specs.Stories.{LaneRun, AreRuns, events_at, events_of_lane, numbers_of, count_of, count_all, AllFrom, PhasesAfter, StoryBegins, served_in, HistoryBegins, OneHistoryBegins, IsStory, IsOneHistory, StoryHasOneHistory}
 use Rattle.gor_store.proofs.StoryLists.{map_reverse}
 use Rattle.gor_store.proofs.StoryNumbers.{below, below_same, below_zero, below_first, only_in, IsCut, cut_at}
 use Rattle.gor_store.proofs.StoryLanes.{lanes_print, named_alone}
@@ -89,7 +89,7 @@ record Goes (shard : ℕ) (h old : History) (phases : List (List LaneRun)) (last
   eight : AllByRecursion (λ runs. length runs ≡ 8) phases
   runs : AllByRecursion (AreRuns shard 0) phases
   in_order : PhasesAfter (length old) phases
-  stands : AllByRecursion (AllByRecursion (λ r. AllByRecursion (StandsIn h) r.events)) phases
+  stands : AllByRecursion (AllByRecursion (λ r. AllByRecursion (StandsAtNumber h) r.events)) phases
   begins : IsBeginning old h
   parts : (lane : ℕ) → numbers lane h ≡ rest last phases lane ++ numbers lane old
   high : (lane : ℕ) → AllByRecursion (λ n. length old + count_all phases ≤ n) (last lane)
@@ -116,7 +116,7 @@ first_phase shard h old runs phases last g =
     (count_numbers 9 runs (omega (arith, g.eight.0)))
 
 phase_made : (shard phase : ℕ) (h old : History) (runs : List LaneRun) (later : ℕ → List ℕ) (c : IsCut h old (count_of runs) later (firsts runs)) → length runs ≡ 8 → AreRuns shard 0 runs
-    → AllByRecursion (λ r. AllByRecursion (StandsIn h) r.events) runs → PhaseMade shard phase old c.news (map (λ r. r.served) runs)
+    → AllByRecursion (λ r. AllByRecursion (StandsAtNumber h) r.events) runs → PhaseMade shard phase old c.news (map (λ r. r.served) runs)
 phase_made shard phase h old runs later c eight are stand = record {
   in_lanes = only_in (λ lane. lane < length (map (λ (r : LaneRun). r.served) runs)) c.news old known;
   printed = lanes_print shard phase 0 h old c.news runs are c.begins stand
@@ -223,7 +223,7 @@ one_history_begins shard start h phases last legal story = begins_of shard start
 
 -- the later events are of lane 8, and are the last ones
 module _ (shard : ℕ) (start : Start) (h : History) (phases : List (List LaneRun)) (last : ℕ → List Numbered)
-    (alone : (lane : ℕ) → ¬ (lane ≡ 8) → last lane ≡ []) (stands : AllByRecursion (StandsIn h) (last 8)) (g : HistoryBegins shard start h phases last) where
+    (alone : (lane : ℕ) → ¬ (lane ≡ 8) → last lane ≡ []) (stands : AllByRecursion (StandsAtNumber h) (last 8)) (g : HistoryBegins shard start h phases last) where
   of_eight : AllByRecursion (λ e. e.lane ≡ 8) g.later
   of_eight = only_in (λ lane. lane ≡ 8) g.later g.printed known where
     known : (lane : ℕ) → (lane ≡ 8) ⊎ (length (numbers lane (g.later ++ g.printed)) ≤ length (numbers lane g.printed))
@@ -232,7 +232,7 @@ module _ (shard : ℕ) (start : Start) (h : History) (phases : List (List LaneRu
 
   last_ones : g.later ≡ reverse (map (λ e. e.1) (last 8))
   last_ones =
-      named_alone h g.printed 8 g.later (reverse (last 8)) ([], g.whole) of_eight (all_reverse (StandsIn h) (last 8) stands)
+      named_alone h g.printed 8 g.later (reverse (last 8)) ([], g.whole) of_eight (all_reverse (StandsAtNumber h) (last 8) stands)
       (ap (numbers 8) g.whole ∙ (g.last_are 8 ∙ ap (λ (ns : List ℕ). ns ++ numbers 8 g.printed) (sym (map_reverse (λ (e : Numbered). e.0) (last 8)))))
       ∙ map_reverse (λ (e : Numbered). e.1) (last 8)
 
@@ -296,8 +296,8 @@ module _ (shard : ℕ) (h : History) (phases : List (List LaneRun)) (last : List
     stands = story.stands;
   }
 
-pub one_history : OneHistory
+pub one_history : StoryHasOneHistory
 one_history shard start h phases last legal story =
     subst (IsOneHistory shard start h phases) (closing_eight last)
-    (closed_of shard start h phases (closing last) (closing_none last) (subst (AllByRecursion (StandsIn h)) (sym (closing_eight last)) story.last_stands)
+    (closed_of shard start h phases (closing last) (closing_none last) (subst (AllByRecursion (StandsAtNumber h)) (sym (closing_eight last)) story.last_stands)
     (one_history_begins shard start h phases (closing last) legal (begun shard h phases last story)))

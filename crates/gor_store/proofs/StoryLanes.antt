@@ -16,7 +16,7 @@ use Rattle.gor_rule.specs.Rule.{numbers}
 use Rattle.gor_rule.proofs.Numbers.{numbers_own, numbers_else}
 use Rattle.gor_text.specs.Transcripts.{Printed, printed_line}
 use Rattle.gor_text.specs.Interleaved.{printed_events, of_lane, LanesPrint}
-use Rattle.gor_finish.specs.Made.{Numbered, StandsIn}
+use Rattle.gor_finish.specs.Made.{Numbered, StandsAtNumber}
 use Rattle.gor_store.specs.Stories.{LaneRun, IsRun, AreRuns, printed_of, events_at, numbers_of}
 use Rattle.gor_store.proofs.StoryNumbers.{stays_as_long}
 use Rattle.gor_store.proofs.StoryLists.{map_reverse, tails, heads, same_tails, kept_one, dropped_one}
@@ -39,7 +39,7 @@ lane_more phase lane n news e =
     ∙ ap (λ (m : ℕ). filter (of_lane lane) (printed_events phase n (reverse news)) ++ filter (of_lane lane) (entry phase (n + m) e ∷ [])) (length-reverse news)))
 
 -- an event that stands in a history at the number of another is that other
-same_event : (h older : History) (e : Event) (x : Numbered) → IsBeginning (e ∷ older) h → StandsIn h x → x.0 ≡ length older → x.1 ≡ e
+same_event : (h older : History) (e : Event) (x : Numbered) → IsBeginning (e ∷ older) h → StandsAtNumber h x → x.0 ≡ length older → x.1 ≡ e
 same_event h older e x begins stands at =
     heads x.1 e stands.0 older (same_tails stands.1.0 begins.0 (x.1 ∷ stands.0) (e ∷ older) (stands.1.1 ∙ sym begins.1) (let n = stands.2 in ap suc (sym n ∙ at)))
 
@@ -52,7 +52,7 @@ lane_prints phase lane n news = filter (of_lane lane) (printed_events phase n (r
 
 -- the events of a lane, the newest first, are those that its numbers name
 abbrev Named : History → History → ℕ → ℕ → History → Type 0
-Named h old phase lane news = (events : List Numbered) → IsBeginning (news ++ old) h → AllByRecursion (StandsIn h) events
+Named h old phase lane news = (events : List Numbered) → IsBeginning (news ++ old) h → AllByRecursion (StandsAtNumber h) events
     → numbers lane (news ++ old) ≡ map (λ e. e.0) events ++ numbers lane old
     → lane_prints phase lane (length old) news ≡ reverse (map (printed_of phase lane) events)
 
@@ -99,7 +99,7 @@ named h old phase lane (e ∷ news) = dite (ℕ_discrete e.lane lane)
     (λ other. named_other h old phase lane e news other (named h old phase lane news))
 
 -- later events of one lane alone are those that its numbers name, the newest first
-pub named_alone : (h old : History) (lane : ℕ) (later : History) (events : List Numbered) → IsBeginning (later ++ old) h → AllByRecursion (λ e. e.lane ≡ lane) later → AllByRecursion (StandsIn h) events
+pub named_alone : (h old : History) (lane : ℕ) (later : History) (events : List Numbered) → IsBeginning (later ++ old) h → AllByRecursion (λ e. e.lane ≡ lane) later → AllByRecursion (StandsAtNumber h) events
     → numbers lane (later ++ old) ≡ map (λ e. e.0) events ++ numbers lane old → later ≡ map (λ e. e.1) events
 named_alone h old lane [] [] begins alone stand is = refl
 named_alone h old lane [] (x ∷ events) begins alone stand is = absurd (let l = length-append (map (λ (y : Numbered). y.0) (x ∷ events)) (numbers lane old) in let m = ap length is in omega arith)
@@ -113,21 +113,21 @@ named_alone h old lane (e ∷ later) (x ∷ events) begins alone stand is =
     λ i. sym here i ∷ rest i
 
 -- so are those of a lane among later ones of all lanes
-pub lane_added : (phase lane : ℕ) (h old news : History) (events : List Numbered) → IsBeginning (news ++ old) h → AllByRecursion (StandsIn h) events
+pub lane_added : (phase lane : ℕ) (h old news : History) (events : List Numbered) → IsBeginning (news ++ old) h → AllByRecursion (StandsAtNumber h) events
     → numbers lane (news ++ old) ≡ numbers_of events ++ numbers lane old → lane_prints phase lane (length old) news ≡ map (printed_of phase lane) events
 lane_added phase lane h old news events begins stand is =
-    named h old phase lane news (reverse events) begins (all_reverse (StandsIn h) events stand) (is ∙ ap (λ (ns : List ℕ). ns ++ numbers lane old) (sym (map_reverse (λ (e : Numbered). e.0) events)))
+    named h old phase lane news (reverse events) begins (all_reverse (StandsAtNumber h) events stand) (is ∙ ap (λ (ns : List ℕ). ns ++ numbers lane old) (sym (map_reverse (λ (e : Numbered). e.0) events)))
     ∙ (ap reverse (map_reverse (printed_of phase lane) events) ∙ reverse-reverse (map (printed_of phase lane) events))
 
 -- the run of a lane prints what its lane added
-run_prints : (shard phase lane : ℕ) (h old news : History) (r : LaneRun) → IsRun shard lane r → IsBeginning (news ++ old) h → AllByRecursion (StandsIn h) r.events
+run_prints : (shard phase lane : ℕ) (h old news : History) (r : LaneRun) → IsRun shard lane r → IsBeginning (news ++ old) h → AllByRecursion (StandsAtNumber h) r.events
     → numbers lane (news ++ old) ≡ numbers_of r.events ++ numbers lane old
     → flat_map (printed_line shard phase lane) r.served ≡ lane_prints phase lane (length old) news
 run_prints shard phase lane h old news r run begins stand is =
     run.prints phase ∙ sym (lane_added phase lane h old news r.events begins stand is)
 
 -- and so do those of all lanes, from one on
-pub lanes_print : (shard phase lane : ℕ) (h old news : History) (runs : List LaneRun) → AreRuns shard lane runs → IsBeginning (news ++ old) h → AllByRecursion (λ r. AllByRecursion (StandsIn h) r.events) runs
+pub lanes_print : (shard phase lane : ℕ) (h old news : History) (runs : List LaneRun) → AreRuns shard lane runs → IsBeginning (news ++ old) h → AllByRecursion (λ r. AllByRecursion (StandsAtNumber h) r.events) runs
     → ((i : ℕ) → i < length runs → numbers (lane + i) (news ++ old) ≡ numbers_of (events_at i runs) ++ numbers (lane + i) old)
     → LanesPrint shard phase (printed_events phase (length old) (reverse news)) lane (map (λ r. r.served) runs)
 lanes_print shard phase lane h old news [] are begins stand own = tt

@@ -4,7 +4,7 @@ use Rattle.gor_model.specs.Answers.{Legal}
 use Rattle.gor_rule.specs.Rule.{numbers}
 use Rattle.gor_rule.proofs.Numbers.{numbers_else}
 use Rattle.gor_store.specs.Stories.{IsRun, numbers_of, events_of_lane}
-use Rattle.gor_store.specs.WorkedStory.{empty_start, read_by, taken, done, worked_history, reads_at, idle, worked_phases, WorkedStory}
+use Rattle.gor_store.specs.WorkedStory.{empty_start, read_by, take_event, done_event, worked_history, reads_at, idle, worked_phases, WorkedStory}
 
 idle_run : (lane : ℕ) → IsRun 0 lane idle
 idle_run lane = record { prints = λ phase. refl; own = tt }
@@ -25,8 +25,8 @@ in_phases (suc (suc (suc (suc (suc (suc (suc (suc lane)))))))) low = absurd (ome
 
 no_more : (lane : ℕ) → 8 < lane → numbers lane worked_history ≡ []
 no_more lane above =
-    numbers_else lane (taken ∷ read_by 1 ∷ read_by 0 ∷ read_by 1 ∷ []) done (λ (is : 8 ≡ lane). omega arith)
-    ∙ (numbers_else lane (read_by 1 ∷ read_by 0 ∷ read_by 1 ∷ []) taken (λ (is : 8 ≡ lane). omega arith)
+    numbers_else lane (take_event ∷ read_by 1 ∷ read_by 0 ∷ read_by 1 ∷ []) done_event (λ (is : 8 ≡ lane). omega arith)
+    ∙ (numbers_else lane (read_by 1 ∷ read_by 0 ∷ read_by 1 ∷ []) take_event (λ (is : 8 ≡ lane). omega arith)
     ∙ (numbers_else lane (read_by 0 ∷ read_by 1 ∷ []) (read_by 1) (λ (is : 1 ≡ lane). omega arith)
     ∙ (numbers_else lane (read_by 1 ∷ []) (read_by 0) (λ (is : 0 ≡ lane). omega arith) ∙ numbers_else lane [] (read_by 1) (λ (is : 1 ≡ lane). omega arith))))
 
@@ -51,9 +51,9 @@ worked_story = (
     closing = refl;
     no_more = no_more;
     stands = (
-      (((read_by 1 ∷ [], (done ∷ taken ∷ read_by 1 ∷ [], refl), refl), tt), ((([], (done ∷ taken ∷ read_by 1 ∷ read_by 0 ∷ [], refl), refl), tt), (tt, (tt, (tt, (tt, (tt, (tt, tt)))))))),
-      ((tt, (((read_by 0 ∷ read_by 1 ∷ [], (done ∷ taken ∷ [], refl), refl), tt), (tt, (tt, (tt, (tt, (tt, (tt, tt)))))))), tt),
+      (((read_by 1 ∷ [], (done_event ∷ take_event ∷ read_by 1 ∷ [], refl), refl), tt), ((([], (done_event ∷ take_event ∷ read_by 1 ∷ read_by 0 ∷ [], refl), refl), tt), (tt, (tt, (tt, (tt, (tt, (tt, tt)))))))),
+      ((tt, (((read_by 0 ∷ read_by 1 ∷ [], (done_event ∷ take_event ∷ [], refl), refl), tt), (tt, (tt, (tt, (tt, (tt, (tt, tt)))))))), tt),
     );
-    last_stands = ((read_by 1 ∷ read_by 0 ∷ read_by 1 ∷ [], (done ∷ [], refl), refl), ((taken ∷ read_by 1 ∷ read_by 0 ∷ read_by 1 ∷ [], ([], refl), refl), tt));
+    last_stands = ((read_by 1 ∷ read_by 0 ∷ read_by 1 ∷ [], (done_event ∷ [], refl), refl), ((take_event ∷ read_by 1 ∷ read_by 0 ∷ read_by 1 ∷ [], ([], refl), refl), tt));
   },
 )

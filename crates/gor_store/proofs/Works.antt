@@ -18,7 +18,7 @@ use Rattle.gor_rule.specs.Rule.{numbers}
 use Rattle.gor_hall.specs.declared.pass.Pass.{Pass}
 use Rattle.gor_hall.specs.Passes.{seen, made, lane_of}
 use Rattle.gor_hall.specs.Closings.{IsWholeHistory}
-use Rattle.gor_finish.specs.Made.{Numbered, StandsIn}
+use Rattle.gor_finish.specs.Made.{Numbered, StandsAtNumber}
 use Rattle.gor_store.specs.Stories.{LaneRun, AreRuns, AllFrom, PhasesAfter, events_at, events_of_lane, numbers_of, count_of, count_all, HistoryBegins, IsOneHistory}
 use Rattle.gor_store.specs.Works.{HasDone, HasAdded, IsWork, WorkStarts, PhaseIsDone, LastIsDone, WorkIsCounted, AddedIsLater, WorkIsTold, WorkIsClosed}
 use Rattle.gor_store.proofs.StoryLists.{map_reverse, same_fronts}
@@ -30,12 +30,12 @@ use Rattle.gor_store.proofs.Stories.{numbers_of_more, none_of_lane, long_numbers
 done_more : (old new : Pass) (before events : List Numbered) → HasDone old before → HasAdded old new events → HasDone new (before ++ events)
 done_more old new before events d a = record {
   made_is = a.made_is ∙ (ap (λ (ns : List ℕ). numbers_of events ++ ns) d.made_is ∙ sym (numbers_of_more before events));
-  each = all_joined (StandsIn (seen new)) before events (all_on (seen old) (seen new) before a.begins d.each) a.each;
+  each = all_joined (StandsAtNumber (seen new)) before events (all_on (seen old) (seen new) before a.begins d.each) a.each;
 }
 
 -- events that were told the newest first
 pub added_newest_first : (old new : Pass) (events : List Numbered) → lane_of new ≡ lane_of old → IsBeginning (seen old) (seen new) → made new ≡ map (λ e. e.0) events ++ made old
-    → AllByRecursion (StandsIn (seen new)) events → HasAdded old new (reverse events)
+    → AllByRecursion (StandsAtNumber (seen new)) events → HasAdded old new (reverse events)
 added_newest_first old new events lane begins made_is each =
     let same : numbers_of (reverse events) ≡ map (λ (e : Numbered). e.0) events =
     sym (map_reverse (λ (e : Numbered). e.0) (reverse events)) ∙ ap (map (λ (e : Numbered). e.0)) (reverse-reverse events) in
@@ -43,7 +43,7 @@ added_newest_first old new events lane begins made_is each =
       lane = lane;
       begins = begins;
       made_is = made_is ∙ ap (λ (ns : List ℕ). ns ++ made old) (sym same);
-      each = all_reverse (StandsIn (seen new)) events each;
+      each = all_reverse (StandsAtNumber (seen new)) events each;
     }
 
 pub added_is_later : AddedIsLater
@@ -156,7 +156,7 @@ module _ (shard : ℕ) (start : Start) (passes : List Pass) (h : History) (phase
     (w : IsWork shard passes phases last) (whole : IsWholeHistory start 9 passes h) where
   -- the history has just the events of a lane, and each at its number
   abbrev pub Holds : ℕ → Type 0
-  Holds lane = (numbers lane h ≡ numbers_of (events_of_lane lane phases ++ last lane)) × AllByRecursion (StandsIn h) (events_of_lane lane phases ++ last lane)
+  Holds lane = (numbers lane h ≡ numbers_of (events_of_lane lane phases ++ last lane)) × AllByRecursion (StandsAtNumber h) (events_of_lane lane phases ++ last lane)
 
   pub holds : (lane : ℕ) → Holds lane
   holds lane = at (slice_get_cases passes lane).1 where
@@ -170,7 +170,7 @@ module _ (shard : ℕ) (start : Start) (passes : List Pass) (h : History) (phase
     none above = ap (λ (es : List Numbered). es ++ last lane) (none_of_lane lane phases (omega (arith, above)) w.order.eight) ∙ w.order.nine lane (omega (arith, above))
 
     past : 9 ≤ lane → Holds lane
-    past above = (whole.2 lane above ∙ ap numbers_of (sym (none above)), subst (AllByRecursion (StandsIn h)) (sym (none above)) tt)
+    past above = (whole.2 lane above ∙ ap numbers_of (sym (none above)), subst (AllByRecursion (StandsAtNumber h)) (sym (none above)) tt)
 
     at : ((p : Pass) × (lane < length passes) × (slice_get passes lane ≡ Some p) × (get_or passes lane p ≡ p)) ⊎ ((length passes ≤ lane) × (slice_get passes lane ≡ None)) → Holds lane
     at (inl t) = of_pass t.0 t.2
@@ -180,13 +180,13 @@ module _ (shard : ℕ) (start : Start) (passes : List Pass) (h : History) (phase
   told_of = one_history_begins shard start h phases last whole.0 record {
     order = w.order;
     lanes = λ lane. (holds lane).0;
-    stands = stand_by_lane (StandsIn h) phases (λ lane. all_front (StandsIn h) (events_of_lane lane phases) (last lane) (holds lane).1);
+    stands = stand_by_lane (StandsAtNumber h) phases (λ lane. all_front (StandsAtNumber h) (events_of_lane lane phases) (last lane) (holds lane).1);
   }
 
   pub closed : ((lane : ℕ) → lane < 8 → last lane ≡ []) → IsOneHistory shard start h phases (last 8)
   closed few =
       closed_of shard start h phases last (λ lane other. dite (dec_le 8 lane) (λ above. w.order.nine lane (omega (arith, above, other))) (λ under. few lane (omega (arith, under))))
-      (all_behind (StandsIn h) (events_of_lane 8 phases) (last 8) (holds 8).1) told_of
+      (all_behind (StandsAtNumber h) (events_of_lane 8 phases) (last 8) (holds 8).1) told_of
 
 pub work_is_told : WorkIsTold
 work_is_told shard start passes h phases last w whole = told_of shard start passes h phases last w whole

@@ -5,7 +5,7 @@ use Rattle.gor_model.specs.Shares.{directory_share}
 use Rattle.gor_model.specs.Starts.{IsRow, AreApart}
 use Rattle.gor_model.specs.declared.start.Row.{Row}
 use Rattle.gor_model.specs.declared.start.Start.{Start}
-use Rattle.gor_dir.specs.Listings.{Listing, Stands}
+use Rattle.gor_dir.specs.Listings.{Listing, ListingStands}
 use Rattle.gor_dir.specs.Restores.{AddsRow}
 use Rattle.gor_recover.specs.Recovered.{row_of}
 use Rattle.gor_recover.specs.declared.recovered.RecoveredRow.{RecoveredRow}
@@ -21,8 +21,8 @@ rows_start slots rows = record { slots = slots; floor = 0; next = 1; rows = rows
 
 -- a directory takes up one row more
 abbrev pub RestoresRow : Listing → Listing → RecoveredRow → Type 0
-RestoresRow old new r = (before after : Start) → AddsRow before (row_of r) after → Stands old (directory_share before []) → Stands new (directory_share after [])
+RestoresRow old new r = (before after : Start) → AddsRow before (row_of r) after → ListingStands old (directory_share before []) → ListingStands new (directory_share after [])
 
 -- a directory's floor rises to one, where it is below that
 abbrev pub RaisesTo : ℕ → Listing → Listing → Type 0
-RaisesTo floor old new = (start : Start) → Stands old (directory_share start []) → Stands new (directory_share (record start { floor = max start.floor floor }) [])
+RaisesTo floor old new = (start : Start) → ListingStands old (directory_share start []) → ListingStands new (directory_share (record start { floor = max start.floor floor }) [])

@@ -8,7 +8,7 @@ use Rattle.gor_hall.specs.declared.pass.Pass.{Pass}
 use Rattle.gor_hall.specs.Halls.{IsPassOf}
 use Rattle.gor_hall.specs.Passes.{view, seen, made, held, lane_of, left_of_pass}
 use Rattle.gor_model.specs.Objects.{IsBeginning}
-use Rattle.gor_finish.specs.Made.{Numbered, StandsIn}
+use Rattle.gor_finish.specs.Made.{Numbered, StandsAtNumber}
 use Rattle.gor_text.specs.declared.answer.LaneAnswer.{LaneAnswer}
 use Rattle.gor_text.specs.declared.answer.What.{What}
 use Rattle.gor_text.specs.declared.answer.What.TheVariants.{Event}
@@ -59,8 +59,8 @@ pub record Prints (lane : ℕ) (acts : List Act) (events : List Numbered) : Type
   pub own : AllByRecursion (λ e. e.1.lane ≡ lane) events
 
 -- these acts are told by just these answers, with every field of them
-abbrev pub Tells : ℕ → List Act → List LaneAnswer → Type 0
-Tells lane acts told = told ≡ map (act_answer lane) acts
+abbrev pub ActsAreTold : ℕ → List Act → List LaneAnswer → Type 0
+ActsAreTold lane acts told = told ≡ map (act_answer lane) acts
 
 -- The history that the pass has then seen is legal and begins with what it had seen; of its lane it has just the events that
 -- the lane made, these after those before. The newest stands first.
@@ -70,14 +70,14 @@ pub record HasRun (old new : Pass) (events : List Numbered) : Type 0 where
   pub begins : IsBeginning (seen old) (seen new)
   pub made_is : made new ≡ map (λ e. e.0) events ++ made old
   pub own : numbers (lane_of old) (seen new) ≡ made new
-  pub each : AllByRecursion (StandsIn (seen new)) events
+  pub each : AllByRecursion (StandsAtNumber (seen new)) events
 
 -- a call of a line was answered by one thing that is told
 pub record IsTold (line : Line) (old new : Pass) (what : What) : Type 0 where
   pub acts : List Act
   pub events : List Numbered
   pub may : LineAnswers 1 line acts
-  pub tells : Tells (lane_of old) acts (record { lane = lane_of old; what = what } ∷ [])
+  pub tells : ActsAreTold (lane_of old) acts (record { lane = lane_of old; what = what } ∷ [])
   pub prints : Prints (lane_of old) acts events
   pub run : HasRun old new events
 
@@ -86,7 +86,7 @@ pub record IsPutTold (name : List ℕ) (time word : ℕ) (old new : Pass) (put :
   pub acts : List Act
   pub events : List Numbered
   pub may : (rest : List Act) → FollowsDue put.due rest → LineAnswers 1 (Put name time word) (acts ++ rest)
-  pub tells : Tells (lane_of old) acts (record { lane = lane_of old; what = put.what } ∷ [])
+  pub tells : ActsAreTold (lane_of old) acts (record { lane = lane_of old; what = put.what } ∷ [])
   pub prints : Prints (lane_of old) acts events
   pub run : HasRun old new events
 
@@ -95,7 +95,7 @@ pub record HasTold (old new : Pass) (before after : List LaneAnswer) (acts : Lis
   pub told : List LaneAnswer
   pub events : List Numbered
   pub after_is : after ≡ before ++ told
-  pub tells : Tells (lane_of old) acts told
+  pub tells : ActsAreTold (lane_of old) acts told
   pub prints : Prints (lane_of old) acts events
   pub run : HasRun old new events
 
@@ -113,9 +113,9 @@ need (Put name time word) = 32776
 need line = 16388
 
 -- a put was stored, and a flush is due
-abbrev pub is_due : PutAnswer → Bool
-is_due (answer.Stored due) = due
-is_due _ = false
+abbrev pub tells_due : PutAnswer → Bool
+tells_due (answer.Stored due) = due
+tells_due _ = false
 
 -- what an event of the shard tells
 abbrev pub event_told : ℕ → ℕ → Reply → LaneAnswer

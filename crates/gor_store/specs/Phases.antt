@@ -21,8 +21,8 @@ abbrev pub lines_at : List (List Line) → ℕ → List Line
 lines_at phase k = slice_index_or phase k []
 
 -- the passes of some lanes, and what the lanes told
-abbrev pub passes_of : List Lane → List Pass
-passes_of lanes = map (λ lane. lane.pass) lanes
+abbrev pub passes_of_lanes : List Lane → List Pass
+passes_of_lanes lanes = map (λ lane. lane.pass) lanes
 
 abbrev pub answers_of : List Lane → List LaneAnswer
 answers_of lanes = flat_map (λ lane. lane.answers.items) lanes
@@ -33,14 +33,14 @@ HaveTold lanes told = ((k : ℕ) (d : Lane) → k < length lanes → (slice_inde
 
 module _ {V : Type 0} where
   -- the pass rests, and has enough events left for these lines, which are all taken
-  pub record IsReady (shard : Hall V) (lines : List Line) (pass : Pass) : Type 0 where
+  pub record IsReadyForLines (shard : Hall V) (lines : List Line) (pass : Pass) : Type 0 where
     pub taken : AreTaken lines
     pub rests : IsResting shard pass
     pub left : needs lines ≤ left_of_pass pass
 
   -- each pass is of the lane of its place, and ready for the lines of this lane
   abbrev pub AreReady : Hall V → List (List Line) → List Pass → Type 0
-  AreReady shard phase passes = (k : ℕ) (p : Pass) → slice_get passes k ≡ Some p → (lane_of p ≡ k) × IsReady shard (lines_at phase k) p
+  AreReady shard phase passes = (k : ℕ) (p : Pass) → slice_get passes k ≡ Some p → (lane_of p ≡ k) × IsReadyForLines shard (lines_at phase k) p
 
   -- as many passes, each of which rests again
   pub record HaveRested (shard : Hall V) (phase : List (List Line)) (olds news : List Pass) : Type 0 where

@@ -8,8 +8,8 @@ use Rattle.gor_model.specs.declared.start.Start.{Start}
 use Rattle.gor_flush.specs.declared.device.Device.{Device}
 use Rattle.gor_flush.specs.declared.part.Part.{Part}
 use Rattle.gor_flush.specs.declared.part.Part.TheVariants as part
-use Rattle.gor_flush.specs.Devices.{shown, device_stands}
-use Rattle.gor_flush.specs.Found.{Found}
+use Rattle.gor_flush.specs.Devices.{device_shown, device_stands}
+use Rattle.gor_flush.specs.Found.{IsFound}
 use Rattle.gor_flush.specs.Starts.{opened_start}
 use Rattle.gor_hall.specs.declared.hall.Hall.{Hall}
 use Rattle.gor_hall.specs.declared.pass.Pass.{Pass}
@@ -28,11 +28,11 @@ pub record BeginsFrom (shards shard slots : ℕ) (tells : Bool) (disk : DiskView
   pub recovered : Recovered
   pub sound : IsRecovered shards shard slots recovered
   pub same : start ≡ opened_start slots recovered shards shard disk.moment faults (is_fit shards shard disk.seen)
-  pub found : IsTrue tells → Found shards shard slots disk.seen recovered
+  pub found : IsTrue tells → IsFound shards shard slots disk.seen recovered
 
 module _ {V : Type 0} where
   -- so many passes, each the first of its lane
-  pub record AreFirst (hall : Hall V) (lanes : ℕ) (passes : List Pass) : Type 0 where
+  pub record AreFirstPasses (hall : Hall V) (lanes : ℕ) (passes : List Pass) : Type 0 where
     pub all : lanes_of hall ≡ lanes
     pub each : (k : ℕ) (p : Pass) → slice_get passes k ≡ Some p → IsFirstPass hall k p
     pub count : length passes ≡ lanes
@@ -52,4 +52,4 @@ pub record HasClosed {D : Type 0} (tells : Bool) (view : D → DiskView) (faults
   pub whole : IsWholeHistory start lanes passes history
   pub device : Device D
   pub disk_is : device.disk ≡ disk
-  pub stands : device_stands start 0 (shown tells view faults device) (share_of start 0 history)
+  pub stands : device_stands start 0 (device_shown tells view faults device) (share_of start 0 history)

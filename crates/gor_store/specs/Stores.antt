@@ -11,13 +11,13 @@ use Rattle.gor_finish.specs.declared.reply.FlushReply.TheVariants.{Flushed, Stop
 use Rattle.gor_flush.specs.Opening.{HoldsOn, IsUnwritten}
 use Rattle.gor_image.specs.DiskSteps.{GoesOn}
 use Rattle.gor_image.specs.Images.{opens_to}
-use Rattle.gor_recover.specs.Openings.{FaultCounts, IsMet}
+use Rattle.gor_recover.specs.Openings.{OpenFaultCounts, IsMet}
 use Rattle.gor_recover.specs.declared.recovered.OpenFault.{OpenFault}
 use Rattle.gor_text.specs.declared.workload.Line.{Line}
 use Rattle.gor_store.specs.Closings.{ClosesBy, only_last}
 use Rattle.gor_store.specs.Lines.{IsResting}
 use Rattle.gor_store.specs.Lanes.{needs}
-use Rattle.gor_store.specs.Phases.{passes_of as passes_of_lanes, lines_at}
+use Rattle.gor_store.specs.Phases.{passes_of_lanes, lines_at}
 use Rattle.gor_store.specs.Shards.{HasClosed}
 use Rattle.gor_store.specs.Stories.{AllFrom}
 use Rattle.gor_store.specs.Works.{HasAdded, HaveAdded}
@@ -67,12 +67,12 @@ pub record HasRooms (rooms : Rooms) : Type 0 where
 
 module _ {D : Type 0} where
   -- the passes of the eight lanes and of the closing one
-  abbrev pub passes_of : Store D → List Pass
-  passes_of store = passes_with store.lanes.items store.closing
+  abbrev pub passes_of_store : Store D → List Pass
+  passes_of_store store = passes_with store.lanes.items store.closing
 
   -- how many events they made
   abbrev pub events_of : Store D → ℕ
-  events_of store = sum_by (λ p. length (made p)) (passes_of store)
+  events_of store = sum_by (λ p. length (made p)) (passes_of_store store)
 
   abbrev pub others_of : Store D → List D
   others_of store = in_their_order store.rest.items
@@ -81,19 +81,19 @@ module _ {D : Type 0} where
   pub record IsAtRest (store : Store D) : Type 0 where
     pub eight : length store.lanes.items ≡ 8
     pub all : lanes_of store.hall ≡ 9
-    pub each : AreSeated store.hall (passes_of store)
+    pub each : AreSeated store.hall (passes_of_store store)
     pub empty : store.room.items ≡ []
     pub room : 9 ≤ vec_capacity store.room
     pub rest : length store.rest.items ≡ 15
     pub more : 16 ≤ vec_capacity store.rest
 
   -- each pass has at least so many events left
-  abbrev pub HasLeft : ℕ → Store D → Type 0
-  HasLeft n store = HaveLeft n (passes_of store)
+  abbrev pub PassesHaveLeft : ℕ → Store D → Type 0
+  PassesHaveLeft n store = HaveLeft n (passes_of_store store)
 
   -- that of each lane has enough left for the lane's own lines
   abbrev pub HasLeftFor : List (List Line) → Store D → Type 0
-  HasLeftFor phase store = HaveLeftFor phase (passes_of store)
+  HasLeftFor phase store = HaveLeftFor phase (passes_of_store store)
 
   -- that of lane 8 has so many
   abbrev pub ClosingHasLeft : ℕ → Store D → Type 0
@@ -101,7 +101,7 @@ module _ {D : Type 0} where
 
   -- no pass has made an event
   abbrev pub HasMadeNothing : Store D → Type 0
-  HasMadeNothing store = HaveMadeNothing (passes_of store)
+  HasMadeNothing store = HaveMadeNothing (passes_of_store store)
 
   -- the same shard, and the same disks beside it
   pub record IsSameStore (old new : Store D) : Type 0 where
@@ -120,7 +120,7 @@ pub record WasRefused {D : Type 0} (shards shard slots : ℕ) (tells : Bool) (vi
   pub held : IsTrue tells → HoldsOn shards shard ((view old).seen) (view old) (view new)
   pub unwritten : IsTrue tells → IsUnwritten fault (view old) (view new)
   pub err : IsTrue tells → IsMet (opens_to ((view old).seen) shards shard slots) fault
-  pub cause : FaultCounts fault (faults old) (faults new)
+  pub cause : OpenFaultCounts fault (faults old) (faults new)
 
 -- ---- the last flush
 
@@ -141,7 +141,7 @@ pub record FlushedBehind (before : ℕ) (old new : Pass) (stopped : Option ℕ) 
 pub record HasFlushed {D : Type 0} (old new : Store D) (stopped : Option ℕ) : Type 0 where
   pub events : List Numbered
   pub closes : ClosesBy stopped events
-  pub added : HaveAdded (passes_of old) (passes_of new) (only_last events)
+  pub added : HaveAdded (passes_of_store old) (passes_of_store new) (only_last events)
   pub from : AllFrom (events_of old) events
 
 -- ---- the close
@@ -150,4 +150,4 @@ pub record HasFlushed {D : Type 0} (old new : Store D) (stopped : Option ℕ) : 
 pub record ComeBack {D : Type 0} (tells : Bool) (view : D → DiskView) (faults : D → ℕ) (store : Store D) (disks : List D) : Type 0 where
   pub disk : D
   pub are : disks ≡ disk ∷ others_of store
-  pub closed : HasClosed tells view faults (start_of store.hall) 9 (passes_of store) disk
+  pub closed : HasClosed tells view faults (start_of store.hall) 9 (passes_of_store store) disk

@@ -7,7 +7,7 @@ use Rattle.gor_model.specs.Answers.{Legal}
 use Rattle.gor_rule.specs.Rule.{numbers}
 use Rattle.gor_text.specs.Transcripts.{Served, Printed, printed_line, printed_from, IsPrinted}
 use Rattle.gor_text.specs.Interleaved.{PhasesMade}
-use Rattle.gor_finish.specs.Made.{Numbered, StandsIn}
+use Rattle.gor_finish.specs.Made.{Numbered, StandsAtNumber}
 
 -- what a lane did in a phase: its lines with the acts that answered them, and its events of one shard under their numbers, the oldest first
 pub record LaneRun : Type 0 where
@@ -68,7 +68,7 @@ pub record ComeInOrder (shard : ℕ) (phases : List (List LaneRun)) (last : ℕ 
 pub record StoryBegins (shard : ℕ) (h : History) (phases : List (List LaneRun)) (last : ℕ → List Numbered) : Type 0 where
   pub order : ComeInOrder shard phases last
   pub lanes : (lane : ℕ) → numbers lane h ≡ numbers_of (events_of_lane lane phases ++ last lane)
-  pub stands : AllByRecursion (AllByRecursion (λ r. AllByRecursion (StandsIn h) r.events)) phases
+  pub stands : AllByRecursion (AllByRecursion (λ r. AllByRecursion (StandsAtNumber h) r.events)) phases
 
 -- the lines of the lanes, phase by phase
 abbrev pub served_in : List (List LaneRun) → List (List (List Served))
@@ -101,8 +101,8 @@ pub record IsStory (shard : ℕ) (h : History) (phases : List (List LaneRun)) (l
   pub lanes : (lane : ℕ) → lane < 8 → numbers lane h ≡ numbers_of (events_of_lane lane phases)
   pub closing : numbers 8 h ≡ numbers_of last
   pub no_more : (lane : ℕ) → 8 < lane → numbers lane h ≡ []
-  pub stands : AllByRecursion (AllByRecursion (λ r. AllByRecursion (StandsIn h) r.events)) phases
-  pub last_stands : AllByRecursion (StandsIn h) last
+  pub stands : AllByRecursion (AllByRecursion (λ r. AllByRecursion (StandsAtNumber h) r.events)) phases
+  pub last_stands : AllByRecursion (StandsAtNumber h) last
 
 -- The history is that of the phases, which grew it one after the other and whose text prints it, and behind it the events of
 -- lane 8.
@@ -116,6 +116,6 @@ pub record IsOneHistory (shard : ℕ) (start : Start) (h : History) (phases : Li
   pub made : PhasesMade shard 0 [] (served_in phases) printed
   pub text : IsPrinted start (printed_from shard 0 (served_in phases)) printed
 
-abbrev pub OneHistory : Type 0
-OneHistory = (shard : ℕ) (start : Start) (h : History) (phases : List (List LaneRun)) (last : List Numbered)
+abbrev pub StoryHasOneHistory : Type 0
+StoryHasOneHistory = (shard : ℕ) (start : Start) (h : History) (phases : List (List LaneRun)) (last : List Numbered)
     → Legal start h → IsStory shard h phases last → IsOneHistory shard start h phases last

@@ -1,8 +1,8 @@
 -- The values of a shard's objects from what was recovered.
 use Rattle.std.specs.Prelude.{◌≡◌, ℕ, List, [], ◌∷◌, ◌++◌, map, length}
 use Rattle.gor_model.specs.Shares.{directory_share, journal_share}
-use Rattle.gor_dir.specs.Listings as directory
-use Rattle.gor_journal.specs.Stands as journal
+use Rattle.gor_dir.specs.Listings.{ListingStands}
+use Rattle.gor_journal.specs.Stands.{PendingStands}
 use Rattle.gor_flush.specs.declared.device.Device.{Device}
 use Rattle.gor_flush.specs.declared.part.Part.{Part}
 use Rattle.gor_flush.specs.declared.part.Part.TheVariants as part
@@ -13,10 +13,10 @@ use Rattle.gor_store.specs.declared.values.Parts.{Parts}
 
 -- the parts but the device stand for their shares of the empty history from what was recovered
 pub record ArePartsOf (slots : ℕ) (r : Recovered) (parts : Parts) : Type 0 where
-  pub directory_is : directory.Stands parts.directory (directory_share (recovered_start slots r) [])
+  pub directory_is : ListingStands parts.directory (directory_share (recovered_start slots r) [])
   pub count : length parts.cells.items ≡ slots
   pub series : CellsStand (map keyed_row r.rows.items) parts.cells.items
-  pub journal_is : journal.Stands parts.journal.pending (journal_share (recovered_start slots r) [])
+  pub journal_is : PendingStands parts.journal.pending (journal_share (recovered_start slots r) [])
 
 -- the parts of a shard in the order of their numbers
 abbrev pub in_order : {D : Type 0} → Device D → Parts → List (Part D)

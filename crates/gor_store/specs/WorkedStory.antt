@@ -23,15 +23,15 @@ event_of lane call reply = record { lane = lane; slot = None; call = call; reply
 abbrev pub read_by : ℕ → Event
 read_by lane = event_of lane (call.Get (97 ∷ []) 0 0) reply.Absent
 
-abbrev pub taken : Event
-taken = event_of 8 call.Take (reply.Take 0)
+abbrev pub take_event : Event
+take_event = event_of 8 call.Take (reply.Take 0)
 
-abbrev pub done : Event
-done = event_of 8 (call.Done None 0) (reply.Done 0)
+abbrev pub done_event : Event
+done_event = event_of 8 (call.Done None 0) (reply.Done 0)
 
 -- lane 1 came first, then lane 0 in the same phase, and lane 1 again in the next
 abbrev pub worked_history : History
-worked_history = done ∷ taken ∷ read_by 1 ∷ read_by 0 ∷ read_by 1 ∷ []
+worked_history = done_event ∷ take_event ∷ read_by 1 ∷ read_by 0 ∷ read_by 1 ∷ []
 
 -- one line of a lane, whose event has a number
 abbrev pub reads_at : ℕ → ℕ → LaneRun
@@ -49,7 +49,7 @@ worked_phases =
     ∷ (idle ∷ reads_at 1 2 ∷ idle ∷ idle ∷ idle ∷ idle ∷ idle ∷ idle ∷ []) ∷ []
 
 abbrev pub worked_last : List Numbered
-worked_last = (3, taken) ∷ (4, done) ∷ []
+worked_last = (3, take_event) ∷ (4, done_event) ∷ []
 
 -- a legal history has them, so the law tells of it
 abbrev pub WorkedStory : Type 0

@@ -9,21 +9,21 @@ use Rattle.gor_rule.specs.Rule.{numbers}
 use Rattle.gor_hall.specs.declared.pass.Pass.{Pass}
 use Rattle.gor_hall.specs.Passes.{seen, made, lane_of}
 use Rattle.gor_hall.specs.Closings.{IsWholeHistory}
-use Rattle.gor_finish.specs.Made.{Numbered, StandsIn}
+use Rattle.gor_finish.specs.Made.{Numbered, StandsAtNumber}
 use Rattle.gor_text.specs.Interleaved.{of_lane, printed_events}
 use Rattle.gor_store.specs.Stories.{LaneRun, AreRuns, AllFrom, printed_of, events_at, events_of_lane, numbers_of, count_all, ComeInOrder, HistoryBegins, IsOneHistory}
 
 -- the pass made just these events, the oldest first, and has seen each at its number
 pub record HasDone (p : Pass) (events : List Numbered) : Type 0 where
   pub made_is : made p ≡ numbers_of events
-  pub each : AllByRecursion (StandsIn (seen p)) events
+  pub each : AllByRecursion (StandsAtNumber (seen p)) events
 
 -- it made these besides, and what it has seen begins with what it had seen
 pub record HasAdded (old new : Pass) (events : List Numbered) : Type 0 where
   pub lane : lane_of new ≡ lane_of old
   pub begins : IsBeginning (seen old) (seen new)
   pub made_is : made new ≡ numbers_of events ++ made old
-  pub each : AllByRecursion (StandsIn (seen new)) events
+  pub each : AllByRecursion (StandsAtNumber (seen new)) events
 
 -- so did each pass of a list, by its place
 pub record HaveAdded (olds news : List Pass) (events : ℕ → List Numbered) : Type 0 where

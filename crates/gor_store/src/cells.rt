@@ -4,9 +4,9 @@ ghost use Rattle.std.specs.List.{AllByRecursion};
 ghost use Rattle.gor_model.specs.Lists.{EachBefore};
 ghost use Rattle.gor_model.specs.Starts.{IsRow, AreApart};
 ghost use Rattle.gor_model.specs.Windows.{greatest_time};
-ghost use Rattle.gor_cell.specs.Stands.{Stands};
+ghost use Rattle.gor_cell.specs.Stands.{CellStands};
 ghost use Rattle.gor_recover.specs.Recovered.{row_of, keyed_row};
-ghost use Rattle.gor_store.specs.Series.{AddsPoint, AreVacant, IsSeries, CellsStand, open_share, share_of_row};
+ghost use Rattle.gor_store.specs.Series.{AddsPoint, AreVacant, IsStartRow, CellsStand, open_share, share_of_row};
 
 use gor_cell::Cell;
 use gor_model::Point;
@@ -27,9 +27,9 @@ fn put_point(cell: &mut Cell, point: Point) -> Result<(), AllocError>
 
 /// Puts the points of a row into a cell that holds its series without a point.
 fn put_points(cell: &mut Cell, row: &RecoveredRow) -> Result<(), AllocError>
-    requires series { IsSeries row.now }
-    requires stands { Stands cell.old.live (Some (open_share row.now [])) }
-    ensures { OnOk result (Stands cell.new.live (Some (open_share row.now row.now.points))) }
+    requires series { IsStartRow row.now }
+    requires stands { CellStands cell.old.live (Some (open_share row.now [])) }
+    ensures { OnOk result (CellStands cell.new.live (Some (open_share row.now row.now.points))) }
 {
     let points = row.points.as_slice();
     for point in points {
@@ -40,9 +40,9 @@ fn put_points(cell: &mut Cell, row: &RecoveredRow) -> Result<(), AllocError>
 
 /// Raises the floor of a cell that holds a row's points to that of the row.
 fn raise_floor(cell: &mut Cell, row: &RecoveredRow) -> Result<(), AllocError>
-    requires series { IsSeries row.now }
-    requires stands { Stands cell.old.live (Some (open_share row.now row.now.points)) }
-    ensures { OnOk result (Stands cell.new.live (Some (share_of_row row.now))) }
+    requires series { IsStartRow row.now }
+    requires stands { CellStands cell.old.live (Some (open_share row.now row.now.points)) }
+    ensures { OnOk result (CellStands cell.new.live (Some (share_of_row row.now))) }
 {
     if row.floor > 0 {
         let window = window_before(row.floor);
@@ -54,8 +54,8 @@ fn raise_floor(cell: &mut Cell, row: &RecoveredRow) -> Result<(), AllocError>
 /// The cell of a recovered series. Its points come under the floor 0, in order, and then the floor rises to that of the
 /// row, under which all of them are kept.
 fn cell_of(alloc: Global, row: &RecoveredRow) -> Result<Cell, AllocError>
-    requires { IsSeries row.now }
-    ensures { IfOk result (λ cell. Stands cell.live (Some (share_of_row row.now))) }
+    requires { IsStartRow row.now }
+    ensures { IfOk result (λ cell. CellStands cell.live (Some (share_of_row row.now))) }
 {
     let mut cell = Cell::vacant(alloc);
     cell.occupy(row.name.copy()?, row.uid, 0);

@@ -1,7 +1,7 @@
 //! The laws on which the text of a store rests.
 ghost use Rattle.gor_store.specs.LineParts.{RefusedMakesNone, FlushFollowsDue};
 ghost use Rattle.gor_store.specs.Sessions.{ImagesOpenAgain, SessionStands, SessionIsWhole};
-ghost use Rattle.gor_store.specs.Stories.{OneHistory, OneHistoryBegins};
+ghost use Rattle.gor_store.specs.Stories.{StoryHasOneHistory, OneHistoryBegins};
 ghost use Rattle.gor_store.specs.WorkedStory.{WorkedStory};
 ghost use Rattle.gor_store.specs.Works.{WorkStarts, PhaseIsDone, LastIsDone, WorkIsCounted, AddedIsLater, WorkIsTold, WorkIsClosed, LaterIsLast, LaterIsInOrder};
 
@@ -15,7 +15,7 @@ pub fn laws()
     // numbers, and then the later events; and the text of all lines prints the history of the phases.
     ensures begins { OneHistoryBegins }
     // Where lane 8 alone worked after the phases, the later events are its own.
-    ensures one_history { OneHistory }
+    ensures one_history { StoryHasOneHistory }
     // There are such histories: two lanes whose numbers stand crosswise, and a flush at the end.
     ensures worked { WorkedStory }
     // Passes that have made nothing have done no phase, and what they have done grows by a phase, and then by events after

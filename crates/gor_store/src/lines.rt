@@ -8,7 +8,7 @@ ghost use Rattle.gor_steps.specs.Points.{get_reply};
 ghost use Rattle.gor_steps.specs.Puts.{put_reply};
 ghost use Rattle.gor_text.specs.declared.workload.Line.TheVariants as line_;
 ghost use Rattle.gor_text.specs.declared.answer.What.TheVariants as what_;
-ghost use Rattle.gor_store.specs.Lines.{IsResting, RestsAgain, IsTold, IsPutTold, IsFlushTold, ServesLine, is_taken, is_due, need, flush_told};
+ghost use Rattle.gor_store.specs.Lines.{IsResting, RestsAgain, IsTold, IsPutTold, IsFlushTold, ServesLine, is_taken, tells_due, need, flush_told};
 ghost use Rattle.gor_store.specs.LineParts.{HasFlushedOnce, HasBegun};
 
 use gor_disk::Disk;
@@ -79,7 +79,7 @@ fn put_told(answer: PutAnswer) -> Reply
 }
 
 fn put_due(answer: PutAnswer) -> bool
-    ensures { result ≡ is_due answer }
+    ensures { result ≡ tells_due answer }
 {
     matches!(answer, PutAnswer::Stored { due: true })
 }

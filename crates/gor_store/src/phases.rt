@@ -2,7 +2,7 @@
 ghost use Rattle.std.specs.Prelude.{◌≡◌, ℕ, ◌<◌, length, map, slice_index_or, IfOk, OnErr};
 ghost use Rattle.gor_text.specs.Workloads.{phase_lines};
 ghost use Rattle.gor_store.specs.declared.phases.Lane.{Lane};
-ghost use Rattle.gor_store.specs.Phases.{IsReady, AreReady, HaveRested, HasWorked, HaveTold, RanPhase, RanInPart, lines_at, passes_of};
+ghost use Rattle.gor_store.specs.Phases.{IsReadyForLines, AreReady, HaveRested, HasWorked, HaveTold, RanPhase, RanInPart, lines_at, passes_of_lanes};
 
 use crate::lanes::run_lane;
 use gor_disk::Disk;
@@ -28,7 +28,7 @@ pub struct Lane {
 
 impl Lane {
     ghost use Rattle.std.specs.Prelude.{◌≡◌, ◌++◌, true, OnOk};
-    ghost use Rattle.gor_store.specs.Phases.{IsReady, HasWorked};
+    ghost use Rattle.gor_store.specs.Phases.{IsReadyForLines, HasWorked};
 
     /// The lane of a pass, which has told nothing. It takes no memory.
     pub fn new(alloc: Global, pass: Pass) -> Lane
@@ -51,7 +51,7 @@ impl Lane {
         before: u64,
         pause: &P,
     )
-        requires ready { IsReady shard.now lines.now self.old.pass }
+        requires ready { IsReadyForLines shard.now lines.now self.old.pass }
         ensures { HasWorked shard.now lines.now before self.old self.new }
     {
         self.answers.clear();
@@ -93,7 +93,7 @@ fn run_at<D: Disk, P: Pause, R: Wait>(
     pause: &P,
 )
     requires place { place < length phase.now }
-    requires ready { IsReady shard.now (lines_at (map (λ lines. lines.items) phase.now) place) lane.old.pass }
+    requires ready { IsReadyForLines shard.now (lines_at (map (λ lines. lines.items) phase.now) place) lane.old.pass }
     ensures { HasWorked shard.now (lines_at (map (λ lines. lines.items) phase.now) place) before lane.old lane.new }
 {
     lane.run(rt, alloc, shard, &phase[place], before, pause);
@@ -138,7 +138,7 @@ fn run_lanes<D: Disk + Send, S: HasShard<D> + Sync, P: Pause + Sync, R: Threads 
     before: u64,
     pause: &P,
 )
-    requires ready { (i : ℕ) (d : Lane) → i < length lanes.old → (i < length phase.now) × IsReady (S.shard_of shared.now) (lines_at (map (λ lines. lines.items) phase.now) i) (slice_index_or lanes.old i d).pass }
+    requires ready { (i : ℕ) (d : Lane) → i < length lanes.old → (i < length phase.now) × IsReadyForLines (S.shard_of shared.now) (lines_at (map (λ lines. lines.items) phase.now) i) (slice_index_or lanes.old i d).pass }
     ensures worked { (i : ℕ) (d : Lane) → i < length lanes.old → HasWorked (S.shard_of shared.now) (lines_at (map (λ lines. lines.items) phase.now) i) before (slice_index_or lanes.old i d) (slice_index_or lanes.new i d) }
     ensures length { length lanes.new ≡ length lanes.old }
 {
@@ -147,7 +147,7 @@ fn run_lanes<D: Disk + Send, S: HasShard<D> + Sync, P: Pause + Sync, R: Threads 
         lanes,
         threads_for(phase),
         &|place, lane| -> ()
-            requires { (place < length phase.now) × IsReady (S.shard_of shared.now) (lines_at (map (λ lines. lines.items) phase.now) place) lane.old.pass }
+            requires { (place < length phase.now) × IsReadyForLines (S.shard_of shared.now) (lines_at (map (λ lines. lines.items) phase.now) place) lane.old.pass }
             ensures { HasWorked (S.shard_of shared.entry.now) (lines_at (map (λ lines. lines.items) phase.entry.now) place) before lane.old lane.new }
         { run_at(rt, alloc, shared.shard(), lane, phase, place, before, pause) },
     );
@@ -156,7 +156,7 @@ fn run_lanes<D: Disk + Send, S: HasShard<D> + Sync, P: Pause + Sync, R: Threads 
 // What the lanes told, lane after lane. The answers are moved: only their list takes memory.
 fn gather(alloc: Global, lanes: &mut [Lane]) -> Result<Vec<LaneAnswer>, AllocError>
     ensures told { IfOk result (λ told. HaveTold lanes.old told.items) }
-    ensures passes { passes_of lanes.new ≡ passes_of lanes.old }
+    ensures passes { passes_of_lanes lanes.new ≡ passes_of_lanes lanes.old }
 {
     let mut told = Vec::new(alloc);
     for lane in lanes.iter_mut() {
@@ -181,10 +181,10 @@ pub(crate) fn run_phase<D: Disk + Send, P: Pause + Sync, R: Threads + Wait + Syn
     pause: &P,
 ) -> Result<Vec<LaneAnswer>, AllocError>
     requires eight { (length lanes.old ≡ 8) × (length (phase_lines phase.now) ≡ 8) }
-    requires ready { AreReady shard.now (phase_lines phase.now) (passes_of lanes.old) }
-    ensures rests { HaveRested shard.now (phase_lines phase.now) (passes_of lanes.old) (passes_of lanes.new) }
-    ensures ok { IfOk result (λ told. RanPhase (phase_lines phase.now) before (passes_of lanes.old) (passes_of lanes.new) told.items) }
-    ensures err { OnErr result (RanInPart (phase_lines phase.now) before (passes_of lanes.old) (passes_of lanes.new)) }
+    requires ready { AreReady shard.now (phase_lines phase.now) (passes_of_lanes lanes.old) }
+    ensures rests { HaveRested shard.now (phase_lines phase.now) (passes_of_lanes lanes.old) (passes_of_lanes lanes.new) }
+    ensures ok { IfOk result (λ told. RanPhase (phase_lines phase.now) before (passes_of_lanes lanes.old) (passes_of_lanes lanes.new) told.items) }
+    ensures err { OnErr result (RanInPart (phase_lines phase.now) before (passes_of_lanes lanes.old) (passes_of_lanes lanes.new)) }
 {
     run_lanes(rt, alloc, shard, lanes, &phase.lanes, before, pause);
     gather(alloc, lanes)

@@ -5,14 +5,14 @@ ghost use Rattle.gor_model.specs.Starts.{IsStart};
 ghost use Rattle.gor_model.specs.Windows.{slots_of_a_shard};
 ghost use Rattle.gor_marks.specs.Spelling.{IsHome};
 ghost use Rattle.gor_image.specs.Images.{opens_to};
-ghost use Rattle.gor_recover.specs.Openings.{FaultCounts, IsMet};
+ghost use Rattle.gor_recover.specs.Openings.{OpenFaultCounts, IsMet};
 ghost use Rattle.gor_recover.specs.Recovered.{recovered_start};
-ghost use Rattle.gor_flush.specs.Devices.{shown};
+ghost use Rattle.gor_flush.specs.Devices.{device_shown};
 ghost use Rattle.gor_flush.specs.Opening.{HoldsOn, IsUnwritten};
 ghost use Rattle.gor_flush.specs.Starts.{start_with, StandsAtStart};
 ghost use Rattle.gor_image.specs.DiskSteps.{GoesOn};
 ghost use Rattle.gor_hall.specs.Halls.{start_of, lanes_of};
-ghost use Rattle.gor_store.specs.Shards.{AreFirst, AreIdle, BeginsFrom, HasClosed, IsFirst};
+ghost use Rattle.gor_store.specs.Shards.{AreFirstPasses, AreIdle, BeginsFrom, HasClosed, IsFirst};
 ghost use Rattle.gor_flush.specs.declared.device.Device.{Device as AnyDevice};
 
 use crate::values::values_of;
@@ -48,10 +48,10 @@ fn open_hall<D: Disk>(
     lanes: u32,
 ) -> Result<OpenShard<D>, Device<D>>
     requires start { IsStart (recovered_start slots recovered) }
-    requires device { StandsAtStart slots recovered (shown D.tells D.view D.faults device) }
+    requires device { StandsAtStart slots recovered (device_shown D.tells D.view D.faults device) }
     requires lanes { (1 ≤ lanes) × (lanes ≤ 16) }
-    ensures start { IfOk result (λ o. start_of o.hall ≡ start_with slots recovered (shown D.tells D.view D.faults device)) }
-    ensures passes { IfOk result (λ o. AreFirst o.hall lanes o.passes.items) }
+    ensures start { IfOk result (λ o. start_of o.hall ≡ start_with slots recovered (device_shown D.tells D.view D.faults device)) }
+    ensures passes { IfOk result (λ o. AreFirstPasses o.hall lanes o.passes.items) }
     ensures back { IfErr result (λ returned. returned ≡ device) }
 {
     let start = Opening::of(slots, &recovered, &device);
@@ -89,12 +89,12 @@ pub fn open_shard<D: Disk>(
     requires lanes { (1 ≤ lanes) × (lanes ≤ 16) }
     ensures start { IfOk result (λ o. BeginsFrom shards shard slots D.tells (D.view disk) (D.faults disk) (start_of o.hall)) }
     ensures count { IfOk result (λ o. (start_of o.hall).slots ≡ slots) }
-    ensures passes { IfOk result (λ o. AreFirst o.hall lanes o.passes.items) }
+    ensures passes { IfOk result (λ o. AreFirstPasses o.hall lanes o.passes.items) }
     ensures goes { IsTrue D.tells → IfErr result (λ e. GoesOn (D.view disk) (D.view e.disk)) }
     ensures held { IsTrue D.tells → IfErr result (λ e. HoldsOn shards shard ((D.view disk).seen) (D.view disk) (D.view e.disk)) }
     ensures unwritten { IsTrue D.tells → IfErr result (λ e. IsUnwritten e.fault (D.view disk) (D.view e.disk)) }
     ensures err { IsTrue D.tells → IfErr result (λ e. IsMet (opens_to ((D.view disk).seen) shards shard slots) e.fault) }
-    ensures cause { IfErr result (λ e. FaultCounts e.fault (D.faults disk) (D.faults e.disk)) }
+    ensures cause { IfErr result (λ e. OpenFaultCounts e.fault (D.faults disk) (D.faults e.disk)) }
 {
     let (device, recovered) = match Device::open(alloc, disk, shards, shard, slots) {
         Ok(found) => found,

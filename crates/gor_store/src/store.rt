@@ -9,8 +9,8 @@ ghost use Rattle.gor_hall.specs.Passes.{lane_of, left_of_pass};
 ghost use Rattle.gor_store.specs.Lines.{IsResting, RestsAgain};
 ghost use Rattle.gor_store.specs.Lanes.{AreTaken};
 ghost use Rattle.gor_store.specs.Phases.{RanPhase, RanInPart};
-ghost use Rattle.gor_store.specs.Shards.{AreFirst, BeginsFrom};
-ghost use Rattle.gor_store.specs.Stores.{IsAtRest, HasRooms, in_their_order, HasLeft, HasLeftFor, ClosingHasLeft, HasMadeNothing, IsSameStore, WasRefused, FlushedBehind, HasFlushed, ComeBack, others_of, passes_of, events_of, lines_of_lanes, stopped_by};
+ghost use Rattle.gor_store.specs.Shards.{AreFirstPasses, BeginsFrom};
+ghost use Rattle.gor_store.specs.Stores.{IsAtRest, HasRooms, in_their_order, PassesHaveLeft, HasLeftFor, ClosingHasLeft, HasMadeNothing, IsSameStore, WasRefused, FlushedBehind, HasFlushed, ComeBack, others_of, passes_of_store, events_of, lines_of_lanes, stopped_by};
 
 use crate::disks::{put_back, take_first};
 use crate::lanes::wait_for;
@@ -75,12 +75,12 @@ fn take_rooms(alloc: Global) -> Result<Rooms, AllocError>
 
 /// The store of a shard that was opened.
 fn store_of<D: Disk>(alloc: Global, opened: OpenShard<D>, rooms: Rooms, rest: Vec<D>) -> Store<D>
-    requires first { AreFirst opened.hall 9 opened.passes.items }
+    requires first { AreFirstPasses opened.hall 9 opened.passes.items }
     requires rooms { HasRooms rooms }
     requires others { length rest.items ≡ 15 }
     requires more { 16 ≤ vec_capacity rest }
     ensures rests { IsAtRest result }
-    ensures fresh { HasMadeNothing result × HasLeft (2 ^ 40) result }
+    ensures fresh { HasMadeNothing result × PassesHaveLeft (2 ^ 40) result }
     ensures hall { result.hall ≡ opened.hall }
     ensures others { others_of result ≡ in_their_order rest.items }
 {
@@ -144,7 +144,7 @@ impl<D: Disk + Send> Store<D> {
         requires slots { slots ≤ slots_of_a_shard }
         requires pending { IsTrue D.tells → AllByRecursion (λ d. NothingPending (D.view d)) disks.items }
         ensures rests { IfOk result IsAtRest }
-        ensures fresh { IfOk result (λ s. HasMadeNothing s × HasLeft (2 ^ 40) s) }
+        ensures fresh { IfOk result (λ s. HasMadeNothing s × PassesHaveLeft (2 ^ 40) s) }
         ensures begins { (disk : D) (others : List D) → disks.items ≡ disk ∷ others → IfOk result (λ s. (others_of s ≡ others) × ((start_of s.hall).slots ≡ slots) × BeginsFrom 1 0 slots D.tells (D.view disk) (D.faults disk) (start_of s.hall)) }
         ensures refused { (disk : D) (others : List D) → disks.items ≡ disk ∷ others → IfErr result (λ e. (e.shard ≡ 0) × (back : D) × (e.disks.items ≡ back ∷ others) × WasRefused 1 0 slots D.tells D.view D.faults e.fault disk back) }
     {
@@ -187,9 +187,9 @@ impl<D: Disk + Send> Store<D> {
         requires left { HasLeftFor (phase_lines phase.now) self.old }
         ensures rests { IsAtRest self.new }
         ensures same { IsSameStore self.old self.new }
-        ensures left { (n : ℕ) → HasLeft (n + 3 * lines_of_lanes (phase_lines phase.now)) self.old → HasLeft n self.new }
-        ensures ok { IfOk result (λ told. RanPhase (phase_lines phase.now) (events_of self.old) (passes_of self.old) (passes_of self.new) told.items) }
-        ensures err { OnErr result (RanInPart (phase_lines phase.now) (events_of self.old) (passes_of self.old) (passes_of self.new)) }
+        ensures left { (n : ℕ) → PassesHaveLeft (n + 3 * lines_of_lanes (phase_lines phase.now)) self.old → PassesHaveLeft n self.new }
+        ensures ok { IfOk result (λ told. RanPhase (phase_lines phase.now) (events_of self.old) (passes_of_store self.old) (passes_of_store self.new) told.items) }
+        ensures err { OnErr result (RanInPart (phase_lines phase.now) (events_of self.old) (passes_of_store self.old) (passes_of_store self.new)) }
     {
         let before = count_events(&self.lanes, &self.closing);
         phases::run_phase(rt, alloc, &self.hall, &mut self.lanes, phase, before, pause)

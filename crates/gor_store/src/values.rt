@@ -3,7 +3,7 @@ ghost use Rattle.std.specs.Prelude.{◌≡◌, ◌+◌, ◌≤◌, [], ◌++◌,
 ghost use Rattle.gor_model.specs.Objects.{objects};
 ghost use Rattle.gor_model.specs.Starts.{IsStart};
 ghost use Rattle.gor_hall.specs.Openings.{AllStand};
-ghost use Rattle.gor_flush.specs.Devices.{shown};
+ghost use Rattle.gor_flush.specs.Devices.{device_shown};
 ghost use Rattle.gor_flush.specs.Parts.{part_stands};
 ghost use Rattle.gor_flush.specs.Starts.{start_with, StandsAtStart};
 ghost use Rattle.gor_flush.specs.declared.part.Part.TheVariants as part;
@@ -85,9 +85,9 @@ pub fn values_of<D: Disk>(
     slots: u32,
 ) -> Result<Vec<Part<D>>, Device<D>>
     requires start { IsStart (recovered_start slots recovered) }
-    requires device { StandsAtStart slots recovered (shown D.tells D.view D.faults device) }
-    ensures len { IfOk result (λ values. length values.items ≡ objects (start_with slots recovered (shown D.tells D.view D.faults device))) }
-    ensures stand { IfOk result (λ values. AllStand (part_stands D.tells D.view D.faults) (start_with slots recovered (shown D.tells D.view D.faults device)) values.items []) }
+    requires device { StandsAtStart slots recovered (device_shown D.tells D.view D.faults device) }
+    ensures len { IfOk result (λ values. length values.items ≡ objects (start_with slots recovered (device_shown D.tells D.view D.faults device))) }
+    ensures stand { IfOk result (λ values. AllStand (part_stands D.tells D.view D.faults) (start_with slots recovered (device_shown D.tells D.view D.faults device)) values.items []) }
     ensures first { IfOk result (λ values. IsFirst device values.items) }
     ensures back { IfErr result (λ returned. returned ≡ device) }
 {

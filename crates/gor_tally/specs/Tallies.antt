@@ -11,25 +11,25 @@ pub record Meaning : Type 0 where
   pub state : List ℕ
 
 -- the state after one point more: the count, which stands still at its end; the least and the greatest word; the last time and its word
-abbrev pub with_point : Rule → List ℕ → Point → List ℕ
-with_point Count [] p = []
-with_point Count (count ∷ rest) p = min (count + 1) (2 ^ 64 - 1) ∷ []
-with_point Least [] p = p.word ∷ []
-with_point Least (word ∷ rest) p = min word p.word ∷ []
-with_point Greatest [] p = p.word ∷ []
-with_point Greatest (word ∷ rest) p = max word p.word ∷ []
-with_point Last [] p = p.time ∷ p.word ∷ []
-with_point Last (time ∷ []) p = p.time ∷ p.word ∷ []
-with_point Last (time ∷ word ∷ rest) p = if nat_lt time p.time then p.time ∷ p.word ∷ [] else time ∷ word ∷ []
+abbrev pub with_tallied_point : Rule → List ℕ → Point → List ℕ
+with_tallied_point Count [] p = []
+with_tallied_point Count (count ∷ rest) p = min (count + 1) (2 ^ 64 - 1) ∷ []
+with_tallied_point Least [] p = p.word ∷ []
+with_tallied_point Least (word ∷ rest) p = min word p.word ∷ []
+with_tallied_point Greatest [] p = p.word ∷ []
+with_tallied_point Greatest (word ∷ rest) p = max word p.word ∷ []
+with_tallied_point Last [] p = p.time ∷ p.word ∷ []
+with_tallied_point Last (time ∷ []) p = p.time ∷ p.word ∷ []
+with_tallied_point Last (time ∷ word ∷ rest) p = if nat_lt time p.time then p.time ∷ p.word ∷ [] else time ∷ word ∷ []
 
 -- the state after these points
-abbrev pub step : Rule → List ℕ → List Point → List ℕ
-step rule state [] = state
-step rule state (p ∷ points) = step rule (with_point rule state p) points
+abbrev pub state_after : Rule → List ℕ → List Point → List ℕ
+state_after rule state [] = state
+state_after rule state (p ∷ points) = state_after rule (with_tallied_point rule state p) points
 
 -- a tally that took these points: its rule stays
 abbrev pub stepped : List Point → Meaning → Meaning
-stepped points tally = record { rule = tally.rule; state = step tally.rule tally.state points }
+stepped points tally = record { rule = tally.rule; state = state_after tally.rule tally.state points }
 
 -- the state that keeps a point, or none
 abbrev pub time_and_word : Option Point → List ℕ

@@ -2,7 +2,7 @@
 
 ghost use Rattle.std.specs.Prelude.{◌≡◌, Some, None};
 ghost use Rattle.gor_tally.specs.declared.rule.Rule.TheVariants.{Last};
-ghost use Rattle.gor_tally.specs.Tallies.{Meaning, time_and_word, with_point};
+ghost use Rattle.gor_tally.specs.Tallies.{Meaning, time_and_word, with_tallied_point};
 
 use crate::spelling::push_point_or_none;
 use crate::tally::Tally;
@@ -36,7 +36,7 @@ impl Latest {
 
 /// The later one of a point and the one behind it; at one time the former.
 fn later_of(former: Option<Point>, point: Point) -> Point
-    ensures { time_and_word (Some result) ≡ with_point Last (time_and_word former) point }
+    ensures { time_and_word (Some result) ≡ with_tallied_point Last (time_and_word former) point }
 {
     match former {
         Some(last) if last.time >= point.time => last,

@@ -2,7 +2,7 @@
 
 ghost use Rattle.std.specs.Prelude.{◌≡◌, Some, None, option_to_list};
 ghost use Rattle.gor_tally.specs.declared.rule.Rule.TheVariants.{Least};
-ghost use Rattle.gor_tally.specs.Tallies.{Meaning, with_point};
+ghost use Rattle.gor_tally.specs.Tallies.{Meaning, with_tallied_point};
 
 use crate::spelling::push_word_or_none;
 use crate::tally::Tally;
@@ -35,7 +35,7 @@ impl Lowest {
 
 /// The lesser one of the word so far, if there is one, and that of a point.
 fn lesser_of(former: Option<u64>, point: Point) -> u64
-    ensures { option_to_list (Some result) ≡ with_point Least (option_to_list former) point }
+    ensures { option_to_list (Some result) ≡ with_tallied_point Least (option_to_list former) point }
 {
     former.map_or(point.word, |word| word.min(point.word))
 }

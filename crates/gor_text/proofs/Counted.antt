@@ -14,7 +14,7 @@ use Rattle.gor_model.specs.declared.start.Start.{Start}
 use Rattle.gor_model.specs.Changes.{History}
 use Rattle.gor_model.proofs.Lists.{all_mapped, all_joined, all_weaker}
 use Rattle.gor_text.specs.LineAnswers.{Act, Made, Refused, MergedPoints}
-use Rattle.gor_text.specs.Transcripts.{Served, Printed, Rises, StandsIn, IsPrinted, act_text, lane_text, phase_text_from, text_of, printed_act, printed_line, printed_lanes, printed_from}
+use Rattle.gor_text.specs.Transcripts.{Served, Printed, Rises, HasPrinted, IsPrinted, act_text, lane_text, phase_text_from, text_of, printed_act, printed_line, printed_lanes, printed_from}
 use Rattle.gor_text.specs.OneText.{HasOnlyLane, IsOfOneLane}
 use Rattle.gor_text.proofs.Orders.{are_range}
 
@@ -205,7 +205,7 @@ pub record AreTold (H : History) (lane : ℕ) (said : List Said) : Type 0 where
   pub numbers : map (λ s. s.number) said ≡ range_with_len 0 (length H)
   pub each : AllByRecursion (IsTold H lane) said
 
-told_as_printed : (H : History) (lane : ℕ) (ps : List Printed) → AllByRecursion (λ p. p.lane ≡ lane) ps → AllByRecursion (StandsIn H) ps → AllByRecursion (λ p. IsTold H lane (of_printed p)) ps
+told_as_printed : (H : History) (lane : ℕ) (ps : List Printed) → AllByRecursion (λ p. p.lane ≡ lane) ps → AllByRecursion (HasPrinted H) ps → AllByRecursion (λ p. IsTold H lane (of_printed p)) ps
 told_as_printed H lane [] all stands = tt
 told_as_printed H lane (p ∷ ps) all stands = (
   record { event = stands.0.event; at = stands.0.at; lane_is = stands.0.lane ∙ all.0; call_is = stands.0.call; reply_is = stands.0.reply },

@@ -203,20 +203,20 @@ phases_text (lanes ∷ phases) =
 
 -- ---- what the text tells of an event of a shard
 
-pub record Told : Type 0 where
+pub record ToldEvent : Type 0 where
   pub lane : ℕ
   pub number : List ℕ
   pub reply : List ℕ
 
-abbrev pub told_of : Printed → Told
+abbrev pub told_of : Printed → ToldEvent
 told_of p = record { lane = p.lane; number = decimal p.number; reply = reply_text p.reply }
 
-abbrev told_act : ℕ → ℕ → Act → List Told
+abbrev told_act : ℕ → ℕ → Act → List ToldEvent
 told_act shard lane (Made s number call reply) = if nat_eq s shard then record { lane = lane; number = decimal number; reply = reply_text reply } ∷ [] else []
 told_act shard lane (Refused why) = []
 told_act shard lane (MergedPoints points) = []
 
-abbrev told_by : ℕ → Placed → List Told
+abbrev told_by : ℕ → Placed → List ToldEvent
 told_by shard p = told_act shard p.lane p.act
 
 told_printed : (shard phase lane : ℕ) (act : Act) → map told_of (printed_act shard phase lane act) ≡ told_act shard lane act
@@ -231,35 +231,35 @@ told_acts : (shard phase lane : ℕ) (acts : List Act) → map told_of (flat_map
 told_acts shard phase lane [] = refl
 told_acts shard phase lane (act ∷ acts) =
     map-append told_of (printed_act shard phase lane act) (flat_map (printed_act shard phase lane) acts)
-    ∙ (ap (λ (ys : List Told). ys ++ map told_of (flat_map (printed_act shard phase lane) acts)) (told_printed shard phase lane act) ∙ ap (λ (ys : List Told). told_act shard lane act ++ ys) (told_acts shard phase lane acts))
+    ∙ (ap (λ (ys : List ToldEvent). ys ++ map told_of (flat_map (printed_act shard phase lane) acts)) (told_printed shard phase lane act) ∙ ap (λ (ys : List ToldEvent). told_act shard lane act ++ ys) (told_acts shard phase lane acts))
 
 told_lines : (shard phase lane : ℕ) (lines : List Served) → map told_of (flat_map (printed_line shard phase lane) lines) ≡ flat_map (told_by shard) (placed_lines lane lines)
 told_lines shard phase lane [] = refl
 told_lines shard phase lane (s ∷ lines) =
     map-append told_of (printed_line shard phase lane s) (flat_map (printed_line shard phase lane) lines)
-    ∙ (ap (λ (ys : List Told). ys ++ map told_of (flat_map (printed_line shard phase lane) lines)) (told_acts shard phase lane s.acts)
-    ∙ (ap (λ (ys : List Told). flat_map (told_by shard) (placed_acts lane s.acts) ++ ys) (told_lines shard phase lane lines)
+    ∙ (ap (λ (ys : List ToldEvent). ys ++ map told_of (flat_map (printed_line shard phase lane) lines)) (told_acts shard phase lane s.acts)
+    ∙ (ap (λ (ys : List ToldEvent). flat_map (told_by shard) (placed_acts lane s.acts) ++ ys) (told_lines shard phase lane lines)
     ∙ sym (flat_map-append (told_by shard) (placed_acts lane s.acts) (placed_lines lane lines))))
 
 told_lanes : (shard phase lane : ℕ) (lanes : List (List Served)) → map told_of (printed_lanes shard phase lane lanes) ≡ flat_map (told_by shard) (placed_lanes lane lanes)
 told_lanes shard phase lane [] = refl
 told_lanes shard phase lane (lines ∷ lanes) =
     map-append told_of (flat_map (printed_line shard phase lane) lines) (printed_lanes shard phase (lane + 1) lanes)
-    ∙ (ap (λ (ys : List Told). ys ++ map told_of (printed_lanes shard phase (lane + 1) lanes)) (told_lines shard phase lane lines)
-    ∙ (ap (λ (ys : List Told). flat_map (told_by shard) (placed_lines lane lines) ++ ys) (told_lanes shard phase (lane + 1) lanes)
+    ∙ (ap (λ (ys : List ToldEvent). ys ++ map told_of (printed_lanes shard phase (lane + 1) lanes)) (told_lines shard phase lane lines)
+    ∙ (ap (λ (ys : List ToldEvent). flat_map (told_by shard) (placed_lines lane lines) ++ ys) (told_lanes shard phase (lane + 1) lanes)
     ∙ sym (flat_map-append (told_by shard) (placed_lines lane lines) (placed_lanes (lane + 1) lanes))))
 
 told_phases : (shard phase : ℕ) (phases : List (List (List Served))) → map told_of (printed_from shard phase phases) ≡ flat_map (told_by shard) (placed_phases phases)
 told_phases shard phase [] = refl
 told_phases shard phase (lanes ∷ phases) =
     map-append told_of (printed_lanes shard phase 0 lanes) (printed_from shard (phase + 1) phases)
-    ∙ (ap (λ (ys : List Told). ys ++ map told_of (printed_from shard (phase + 1) phases)) (told_lanes shard phase 0 lanes)
-    ∙ (ap (λ (ys : List Told). flat_map (told_by shard) (placed_lanes 0 lanes) ++ ys) (told_phases shard (phase + 1) phases)
+    ∙ (ap (λ (ys : List ToldEvent). ys ++ map told_of (printed_from shard (phase + 1) phases)) (told_lanes shard phase 0 lanes)
+    ∙ (ap (λ (ys : List ToldEvent). flat_map (told_by shard) (placed_lanes 0 lanes) ++ ys) (told_phases shard (phase + 1) phases)
     ∙ sym (flat_map-append (told_by shard) (placed_lanes 0 lanes) (placed_phases phases))))
 
 -- ---- what can be read again
 
-abbrev pub CanBeTold : Told → Type 0
+abbrev pub CanBeTold : ToldEvent → Type 0
 CanBeTold t = IsInside t.reply
 
 -- an act has a lane, and a shard that is there
@@ -384,8 +384,8 @@ all_same_told shard (x ∷ xs) [] one two is = absurd (not_nothing (act_body x.l
 all_same_told shard (x ∷ xs) (y ∷ ys) one two is =
     let both = parted IsInLine 10 (λ more. omega (arith, more)) (act_body x.lane x.act) (act_body y.lane y.act) (flat_map placed_text xs) (flat_map placed_text ys)
     (body_inside x.lane x.act one.0) (body_inside y.lane y.act two.0) (sym (line_first x (flat_map placed_text xs)) ∙ (is ∙ line_first y (flat_map placed_text ys))) in
-    ap (λ (zs : List Told). zs ++ flat_map (told_by shard) xs) (same_told shard x.lane y.lane x.act y.act one.0 two.0 both.0)
-    ∙ ap (λ (zs : List Told). told_by shard y ++ zs) (all_same_told shard xs ys one.1 two.1 both.1)
+    ap (λ (zs : List ToldEvent). zs ++ flat_map (told_by shard) xs) (same_told shard x.lane y.lane x.act y.act one.0 two.0 both.0)
+    ∙ ap (λ (zs : List ToldEvent). told_by shard y ++ zs) (all_same_told shard xs ys one.1 two.1 both.1)
 
 -- one text tells one list of each shard
 pub one_told : (shards : ℕ) (t u : List (List (List Served))) → shards ≤ 2 ^ 64 → AllByRecursion (IsPlacedAt shards) (placed_phases t) → AllByRecursion (IsPlacedAt shards) (placed_phases u)

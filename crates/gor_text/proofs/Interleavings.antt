@@ -11,7 +11,7 @@ use Rattle.gor_model.specs.declared.start.Start.{Start}
 use Rattle.gor_model.specs.Changes.{History}
 use Rattle.gor_model.specs.Answers.{Legal}
 use Rattle.gor_model.proofs.Lists.{all_joined, all_reverse, all_filter, all_weaker}
-use Rattle.gor_text.specs.Transcripts.{Served, Printed, Rises, StandsIn, IsPrinted, printed_from, printed_lanes}
+use Rattle.gor_text.specs.Transcripts.{Served, Printed, Rises, HasPrinted, IsPrinted, printed_from, printed_lanes}
 use Rattle.gor_text.specs.Interleaved.{printed_events, of_lane, LanesPrint, PhasesMade}
 
 -- ---- lists
@@ -92,7 +92,7 @@ at_length [] e ys n is = rw is refl
 at_length (x ∷ xs) e ys n is = rw is (at_length xs e ys (length xs) refl)
 
 events_stand : (whole : History) (phase : ℕ) (front events back : List Event) (n : ℕ) → n ≡ length front → reverse whole ≡ front ++ (events ++ back)
-    → AllByRecursion (StandsIn whole) (printed_events phase n events)
+    → AllByRecursion (HasPrinted whole) (printed_events phase n events)
 events_stand whole phase front [] back n is turned = tt
 events_stand whole phase front (e ∷ later) back n is turned = (
   record { event = e; at = rw turned (at_length front e (later ++ back) n is); lane = refl; call = refl; reply = refl },
@@ -238,13 +238,13 @@ turned whole later news H is =
     ap reverse is ∙ (reverse-append later (news ++ H) ∙ (ap (λ (front : History). front ++ reverse later) (reverse-append news H) ∙ append_assoc (reverse H) (reverse news) (reverse later)))
 
 run_stands : (shard phase : ℕ) (H : History) (phases : List (List (List Served))) (whole : History) → PhasesMade shard phase H phases whole
-    → AllByRecursion (StandsIn whole) (printed_from shard phase phases)
+    → AllByRecursion (HasPrinted whole) (printed_from shard phase phases)
 run_stands shard phase H [] whole made = tt
 run_stands shard phase H (lanes ∷ phases) whole made =
     let news = made.0 in
     let later = whole_extends shard (phase + 1) (news ++ H) phases whole made.2 in
-    all_joined (StandsIn whole) (printed_lanes shard phase 0 lanes) (printed_from shard (phase + 1) phases)
-    (lanes_keep (StandsIn whole) shard phase 0 lanes (printed_events phase (length H) (reverse news))
+    all_joined (HasPrinted whole) (printed_lanes shard phase 0 lanes) (printed_from shard (phase + 1) phases)
+    (lanes_keep (HasPrinted whole) shard phase 0 lanes (printed_events phase (length H) (reverse news))
     (events_stand whole phase (reverse H) (reverse news) (reverse later.0) (length H) (sym (length-reverse H)) (turned whole later.0 news H later.1)) made.1.printed)
     (run_stands shard (phase + 1) (news ++ H) phases whole made.2)
 

@@ -17,7 +17,7 @@ use Rattle.gor_model.proofs.Lists.{all_joined, all_mapped}
 use Rattle.gor_text.specs.declared.workload.Line.{Line}
 use Rattle.gor_text.specs.LineAnswers.{Act, Made, Refused, MergedPoints, EndsTake, done, stopped, Flushes, taken, FollowsPut, Finishes, seal, FollowsFloor, Gets, none, refused, got, LineAnswers}
 use Rattle.gor_text.specs.LineAnswers as told
-use Rattle.gor_text.specs.Transcripts.{Served, Printed, StandsIn, IsPrinted, before_number, printed_from}
+use Rattle.gor_text.specs.Transcripts.{Served, Printed, HasPrinted, IsPrinted, before_number, printed_from}
 use Rattle.gor_text.specs.OneText.{StopsNothing}
 use Rattle.gor_text.proofs.Counted.{Said, all_said, acts_of, flat_phases, of_printed, said_phases}
 use Rattle.gor_text.proofs.SameActs.{history_at, legal_at, shard_below}
@@ -102,7 +102,7 @@ record IsThere (H : History) (s : Said) : Type 0 where
   pub at : slice_get (reverse H) s.number ≡ Some event
   pub call_is : event.call ≡ s.call
 
-all_there : (H : History) (ps : List Printed) → AllByRecursion (StandsIn H) ps → AllByRecursion (λ p. IsThere H (of_printed p)) ps
+all_there : (H : History) (ps : List Printed) → AllByRecursion (HasPrinted H) ps → AllByRecursion (λ p. IsThere H (of_printed p)) ps
 all_there H [] stands = tt
 all_there H (p ∷ ps) stands = (record { event = stands.0.event; at = stands.0.at; call_is = stands.0.call }, all_there H ps stands.1)
 

@@ -19,7 +19,7 @@ use Rattle.gor_model.specs.PlainMap.{row_after}
 use Rattle.gor_model.specs.Answers.{answer, IsAnswered, Legal}
 use Rattle.gor_model.proofs.Lists.{heads_of, all_filter}
 use Rattle.gor_text.specs.LineAnswers.{LineAnswers}
-use Rattle.gor_text.specs.Transcripts.{Served, Printed, Rises, StandsIn, IsPrinted, before_number, printed_from}
+use Rattle.gor_text.specs.Transcripts.{Served, Printed, Rises, HasPrinted, IsPrinted, before_number, printed_from}
 use Rattle.gor_text.specs.Interleaved.{of_lane}
 use Rattle.gor_text.specs.OneText.{call_at_rest, event_at_rest, IsSameHistory}
 use Rattle.gor_text.specs.OneHistory.{HasNames, HasFewLanes, PrintsNames, OneHistory}
@@ -29,7 +29,7 @@ use Rattle.gor_model.proofs.Orders.{IsIn, in_contained, contained, all_in}
 use Rattle.gor_text.proofs.Counted.{acts_of, Said, all_said, of_printed, each_with}
 use Rattle.gor_text.proofs.SameActs.{legal_at, before_more, same_event}
 use Rattle.gor_text.proofs.OneTexts.{before_all, length_map, length_range}
-use Rattle.gor_text.proofs.Decoded.{Told, told_of, CanBeTold, SealsInLine, reply_inside, one_told}
+use Rattle.gor_text.proofs.Decoded.{ToldEvent, told_of, CanBeTold, SealsInLine, reply_inside, one_told}
 use Rattle.gor_text.proofs.RowNames.{IsNamed, NamesSeal, rows_named, seals_in_line, sealed_key}
 use Rattle.gor_text.proofs.SealFree.{SealsNothing, phases_free}
 use Rattle.gor_text.proofs.LaneCalls.{OwnsName, Paired, Meets, lines_meet}
@@ -65,7 +65,7 @@ filter_told lane [] = refl
 filter_told lane (p ∷ ps) = by (nat_eq p.lane lane) refl (filter_told lane ps) where
   by : (b : Bool) → nat_eq p.lane lane ≡ b → map told_of (filter (of_lane lane) ps) ≡ filter (λ t. nat_eq t.lane lane) (map told_of ps)
       → map told_of (filter (of_lane lane) (p ∷ ps)) ≡ filter (λ t. nat_eq t.lane lane) (map told_of (p ∷ ps))
-  by true is rest = rw is (ap (λ (ts : List Told). told_of p ∷ ts) rest)
+  by true is rest = rw is (ap (λ (ts : List ToldEvent). told_of p ∷ ts) rest)
   by false is rest = rw is rest
 
 -- ---- what a printed event is
@@ -82,9 +82,9 @@ names_seal start h _ named either = tt
 
 -- an event of a history, which is no Seal where the start may have other names
 abbrev Sure : Start → History → Printed → Type 0
-Sure start G p = StandsIn G p × (HasNames start ⊎ SealsNothing p.call)
+Sure start G p = HasPrinted G p × (HasNames start ⊎ SealsNothing p.call)
 
-all_sure : (start : Start) (G : History) (ps : List Printed) → AllByRecursion (StandsIn G) ps → HasNames start ⊎ AllByRecursion (λ p. SealsNothing p.call) ps → AllByRecursion (Sure start G) ps
+all_sure : (start : Start) (G : History) (ps : List Printed) → AllByRecursion (HasPrinted G) ps → HasNames start ⊎ AllByRecursion (λ p. SealsNothing p.call) ps → AllByRecursion (Sure start G) ps
 all_sure start G [] stands either = tt
 all_sure start G (p ∷ ps) stands (inl names) = ((stands.0, inl names), all_sure start G ps stands.1 (inl names))
 all_sure start G (p ∷ ps) stands (inr free) = ((stands.0, inr free.0), all_sure start G ps stands.1 (inr free.1))
@@ -94,7 +94,7 @@ module _ (start : Start) (fits : IsStart start) (G : History) (legal : Legal sta
   named p sure =
       names_seal start (before_number p.number G) p.call (λ names. rows_named start fits names (before_number p.number G) (legal_at start G p.number sure.0.event legal sure.0.at).0) sure.1
 
-  answered : (p : Printed) → StandsIn G p → p.reply ≡ answer start (before_number p.number G) p.call
+  answered : (p : Printed) → HasPrinted G p → p.reply ≡ answer start (before_number p.number G) p.call
   answered p stands = sym stands.reply ∙ ((legal_at start G p.number stands.event legal stands.at).1.reply ∙ ap (answer start (before_number p.number G)) stands.call)
 
   owned : (p : Printed) → Sure start G p → OwnsName p.call p.reply
@@ -107,7 +107,7 @@ module _ (start : Start) (fits : IsStart start) (G : History) (legal : Legal sta
   all_told [] sure = tt
   all_told (p ∷ ps) sure = (can_be_told p sure.0, all_told ps sure.1)
 
-has_place : (G : History) (p : Printed) → StandsIn G p → p.number < length G
+has_place : (G : History) (p : Printed) → HasPrinted G p → p.number < length G
 has_place G p stands = let within : p.number < length (reverse G) = slice_get_within (reverse G) p.number stands.event stands.at in omega (arith, within, length-reverse G)
 
 as_long : (start : Start) (G : History) (printed : List Printed) → IsPrinted start printed G → length printed ≡ length G
@@ -133,9 +133,9 @@ module _ (shards shard : ℕ) (start : Start) (fits : IsStart start) (H K : Hist
       sym (as_long start H (printed_from shard 0 served) first)
       ∙ (sym (length_map told_of (printed_from shard 0 served)) ∙ (ap length told ∙ (length_map told_of (printed_from shard 0 other) ∙ as_long start K (printed_from shard 0 other) second)))
 
-  one_number : (p q : Printed) → StandsIn H p → StandsIn K q → told_of p ≡ told_of q → p.number ≡ q.number
+  one_number : (p q : Printed) → HasPrinted H p → HasPrinted K q → told_of p ≡ told_of q → p.number ≡ q.number
   one_number p q mine its is =
-      decimal_injective p.number q.number (omega (arith, has_place H p mine, short)) (omega (arith, has_place K q its, lengths, short)) (ap (λ (t : Told). t.number) is)
+      decimal_injective p.number q.number (omega (arith, has_place H p mine, short)) (omega (arith, has_place K q its, lengths, short)) (ap (λ (t : ToldEvent). t.number) is)
 
   pairs : (n : ℕ) → SameTo n → (ps qs : List Printed) → map told_of ps ≡ map told_of qs → AllByRecursion (Sure start H) ps → AllByRecursion (Sure start K) qs
       → Paired shard n (map of_printed ps) (map of_printed qs)
@@ -145,7 +145,7 @@ module _ (shards shard : ℕ) (start : Start) (fits : IsStart start) (H K : Hist
       let heads = heads_of (told_of p) (told_of q) (map told_of ps) (map told_of qs) is in
       let number : p.number ≡ q.number = one_number p q mine.0.0 its.0.0 heads.0 in (
         record {
-          shown = ap (λ (t : Told). t.reply) heads.0;
+          shown = ap (λ (t : ToldEvent). t.reply) heads.0;
           replies = λ less calls. answered start fits H first.legal p mine.0.0
               ∙ (same_answer start (before_number p.number H) (before_number p.number K) p.call q.call (same p.number less) calls
               ∙ (ap (λ k. answer start (before_number k K) q.call) number ∙ sym (answered start fits K second.legal q its.0.0)));
@@ -158,12 +158,12 @@ module _ (shards shard : ℕ) (start : Start) (fits : IsStart start) (H K : Hist
   -- the event of the other history with the same number
   record Found (n : ℕ) (p : Printed) : Type 0 where
     pub it : Printed
-    pub stands : StandsIn K it
+    pub stands : HasPrinted K it
     pub number : it.number ≡ n
     pub lane : p.lane ≡ it.lane
     pub calls : call_at_rest p.call ≡ call_at_rest it.call
 
-  find : (n : ℕ) (ps qs : List Printed) → map told_of ps ≡ map told_of qs → AllByRecursion (StandsIn H) ps → AllByRecursion (StandsIn K) qs → EachBefore (λ p q. p.number < q.number) ps
+  find : (n : ℕ) (ps qs : List Printed) → map told_of ps ≡ map told_of qs → AllByRecursion (HasPrinted H) ps → AllByRecursion (HasPrinted K) qs → EachBefore (λ p q. p.number < q.number) ps
       → Meets shard n (map of_printed ps) (map of_printed qs) → (p : Printed) → IsIn ps p → p.number ≡ n → Found n p
   find n [] qs is mine its rising meets p there at = absurd there
   find n (x ∷ ps) [] is mine its rising meets p there at = absurd (let both : (told_of x ∷ map told_of ps) ≡ [] = is in cc)
@@ -174,7 +174,7 @@ module _ (shards shard : ℕ) (start : Start) (fits : IsStart start) (H K : Hist
         it = q;
         stands = its.0;
         number = sym (one_number x q mine.0 its.0 heads.0) ∙ number;
-        lane = sym (ap (λ (r : Printed). r.lane) same) ∙ ap (λ (t : Told). t.lane) heads.0;
+        lane = sym (ap (λ (r : Printed). r.lane) same) ∙ ap (λ (t : ToldEvent). t.lane) heads.0;
         calls = sym (ap (λ (r : Printed). call_at_rest r.call) same) ∙ here.0;
       }
   find n (x ∷ ps) (q ∷ qs) is mine its rising meets p (inr there) at =
@@ -212,7 +212,7 @@ module _ (shards shard : ℕ) (start : Start) (fits : IsStart start) (H K : Hist
 
   step : (n : ℕ) → n < length H → SameTo n → SameAt (n + 1)
   step n below same = by (printed_at n below) where
-    grown : (p : Printed) → StandsIn H p → p.number ≡ n → Found n p → SameAt (n + 1)
+    grown : (p : Printed) → HasPrinted H p → p.number ≡ n → Found n p → SameAt (n + 1)
     grown p mine number found =
         let e = mine.event in
         let f = found.stands.event in
@@ -232,10 +232,10 @@ module _ (shards shard : ℕ) (start : Start) (fits : IsStart start) (H K : Hist
     by : (p : Printed) × IsIn (printed_from shard 0 served) p × (p.number ≡ n) → SameAt (n + 1)
     by it =
         let p = it.0 in
-        grown p (all_in (StandsIn H) (printed_from shard 0 served) p first.stands it.1) it.2
+        grown p (all_in (HasPrinted H) (printed_from shard 0 served) p first.stands it.1) it.2
         (find n (filter (of_lane p.lane) (printed_from shard 0 served)) (filter (of_lane p.lane) (printed_from shard 0 other))
         (filter_told p.lane (printed_from shard 0 served) ∙ (ap (filter (λ t. nat_eq t.lane p.lane)) told ∙ sym (filter_told p.lane (printed_from shard 0 other))))
-        (all_filter (StandsIn H) (of_lane p.lane) (printed_from shard 0 served) first.stands) (all_filter (StandsIn K) (of_lane p.lane) (printed_from shard 0 other) second.stands) (lane_rises p.lane) (lane_meets n same p.lane) p
+        (all_filter (HasPrinted H) (of_lane p.lane) (printed_from shard 0 served) first.stands) (all_filter (HasPrinted K) (of_lane p.lane) (printed_from shard 0 other) second.stands) (lane_rises p.lane) (lane_meets n same p.lane) p
         (in_filter (of_lane p.lane) (printed_from shard 0 served) p (eq-eqb p.lane p.lane refl) it.1) it.2)
 
   all_same : (n : ℕ) → n ≤ length H → SameTo n

@@ -37,7 +37,7 @@ use Rattle.gor_text.specs.declared.answer.Reason.{Reason}
 use Rattle.gor_text.specs.declared.answer.Reason.TheVariants as reason
 use Rattle.gor_text.specs.declared.workload.Line.{Line}
 use Rattle.gor_text.specs.declared.workload.Line.TheVariants.{Finish}
-use Rattle.gor_text.specs.LineAnswers.{Act, Made, Refused, MergedPoints, EndsTake, done, stopped, Flushes, taken, FollowsPut, Finishes, seal, FollowsFloor, points_of, Gets, none, refused, got, LineAnswers}
+use Rattle.gor_text.specs.LineAnswers.{Act, Made, Refused, MergedPoints, EndsTake, done, stopped, Flushes, taken, FollowsPut, Finishes, seal, FollowsFloor, points_of_reply, Gets, none, refused, got, LineAnswers}
 use Rattle.gor_text.specs.LineAnswers as told
 use Rattle.gor_text.specs.Transcripts.{before_number, AllSealed, ClosesAll, sealed_slot, SlotsRise, FinishSeals}
 use Rattle.gor_text.specs.OneText.{call_at_rest, event_at_rest, IsSameHistory, StopsNothing}
@@ -415,7 +415,7 @@ module _ (shards lane : ℕ) (starts : ℕ → Start) (H K : ℕ → History)
       let met = meet s n m c c r q ns (shard_below shards some name) agree (one.0 (shard_below shards some name)) (two.0 (shard_below shards some name)) refl in
       let rest = gets_same some from to names (bumped s ns) acts actions lists others more mores met.agree one.1 two.1 in record {
         same = in_front s n m c c r q ns acts actions refl met rest.same;
-        lists_are = ap (λ x. points_of x ∷ lists) met.reply ∙ ap (λ (xs : List (List Point)). points_of q ∷ xs) rest.lists_are;
+        lists_are = ap (λ x. points_of_reply x ∷ lists) met.reply ∙ ap (λ (xs : List (List Point)). points_of_reply q ∷ xs) rest.lists_are;
       }
 
   -- ---- one line

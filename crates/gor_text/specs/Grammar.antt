@@ -19,9 +19,9 @@ lines_of [] = []
 lines_of (byte ∷ bytes) = if nat_eq byte 10 then ([] ∷ lines_of bytes) else onto_first byte (lines_of bytes)
 
 -- the words of a line, which single spaces part: one more than it has spaces, and empty where a space has no word beside it
-abbrev pub words_of : List ℕ → List (List ℕ)
-words_of [] = [] ∷ []
-words_of (byte ∷ bytes) = if nat_eq byte 32 then ([] ∷ words_of bytes) else onto_first byte (words_of bytes)
+abbrev pub words_of_line : List ℕ → List (List ℕ)
+words_of_line [] = [] ∷ []
+words_of_line (byte ∷ bytes) = if nat_eq byte 32 then ([] ∷ words_of_line bytes) else onto_first byte (words_of_line bytes)
 
 -- ---- numbers
 
@@ -43,17 +43,17 @@ abbrev pub zero_alone : List ℕ → Option ℕ
 zero_alone [] = Some 0
 zero_alone (byte ∷ bytes) = None
 
-abbrev pub number_of : List ℕ → Option ℕ
-number_of [] = None
-number_of (byte ∷ bytes) = if nat_eq byte 48 then zero_alone bytes else value_from 10 0 (byte ∷ bytes)
+abbrev pub number_of_text : List ℕ → Option ℕ
+number_of_text [] = None
+number_of_text (byte ∷ bytes) = if nat_eq byte 48 then zero_alone bytes else value_from 10 0 (byte ∷ bytes)
 
 -- a word of 64 bits is 16 lower-case hexadecimal digits
 abbrev pub word_of : List ℕ → Option ℕ
 word_of text = if nat_eq (length text) 16 then value_from 16 0 text else None
 
 -- a lane is a number from 0 to 7
-abbrev pub lane_of : List ℕ → Option ℕ
-lane_of text = option_and_then (λ n. if nat_lt n 8 then Some n else None) (number_of text)
+abbrev pub lane_of_text : List ℕ → Option ℕ
+lane_of_text text = option_and_then (λ n. if nat_lt n 8 then Some n else None) (number_of_text text)
 
 -- ---- what a lane asks for
 
@@ -77,15 +77,15 @@ three_of (first ∷ words) = option_map (λ others. (first, others.0, others.1))
 -- `put NAME TIME WORD`
 abbrev pub put_with : List ℕ × List ℕ × List ℕ → Option Line
 put_with words =
-    if is_named words.0 then option_and_then (λ time. option_and_then (λ word. Some (Put words.0 time word)) (word_of words.2)) (number_of words.1) else None
+    if is_named words.0 then option_and_then (λ time. option_and_then (λ word. Some (Put words.0 time word)) (word_of words.2)) (number_of_text words.1) else None
 
-abbrev pub put_of : List (List ℕ) → Option Line
-put_of words = option_and_then put_with (three_of words)
+abbrev pub put_of_words : List (List ℕ) → Option Line
+put_of_words words = option_and_then put_with (three_of words)
 
 -- `get NAME FROM TO`
 abbrev pub get_with : List ℕ × List ℕ × List ℕ → Option Line
 get_with words =
-    if is_named words.0 then option_and_then (λ from. option_and_then (λ to. Some (Get words.0 from to)) (number_of words.2)) (number_of words.1) else None
+    if is_named words.0 then option_and_then (λ from. option_and_then (λ to. Some (Get words.0 from to)) (number_of_text words.2)) (number_of_text words.1) else None
 
 abbrev pub get_of : List (List ℕ) → Option Line
 get_of words = option_and_then get_with (three_of words)
@@ -96,27 +96,27 @@ del_of words = option_and_then (λ name. if is_named name then Some (Del name) e
 
 -- `flush SHARD`
 abbrev pub flush_of : List (List ℕ) → Option Line
-flush_of words = option_and_then (λ text. option_and_then (λ shard. Some (Flush shard)) (number_of text)) (one_of words)
+flush_of words = option_and_then (λ text. option_and_then (λ shard. Some (Flush shard)) (number_of_text text)) (one_of words)
 
 -- `finish SHARD WINDOW`
 abbrev pub finish_with : List ℕ × List ℕ → Option Line
-finish_with words = option_and_then (λ shard. option_and_then (λ window. Some (Finish shard window)) (number_of words.1)) (number_of words.0)
+finish_with words = option_and_then (λ shard. option_and_then (λ window. Some (Finish shard window)) (number_of_text words.1)) (number_of_text words.0)
 
 abbrev pub finish_of : List (List ℕ) → Option Line
 finish_of words = option_and_then finish_with (two_of words)
 
 -- 1 to 16 names
-abbrev pub names_of : List (List ℕ) → Option (List (List ℕ))
-names_of names = if nat_le 1 (length names) && nat_le (length names) 16 && list_all is_named names then Some names else None
+abbrev pub names_of_words : List (List ℕ) → Option (List (List ℕ))
+names_of_words names = if nat_le 1 (length names) && nat_le (length names) 16 && list_all is_named names then Some names else None
 
 abbrev pub merge_of : List (List ℕ) → Option Line
 merge_of (from ∷ to ∷ names) =
-    option_and_then (λ f. option_and_then (λ t. option_and_then (λ ns. Some (Merge f t ns)) (names_of names)) (number_of to)) (number_of from)
+    option_and_then (λ f. option_and_then (λ t. option_and_then (λ ns. Some (Merge f t ns)) (names_of_words names)) (number_of_text to)) (number_of_text from)
 merge_of _ = None
 
 abbrev pub line_of : List ℕ → List (List ℕ) → Option Line
 line_of verb words =
-    if bytes_eq verb (codes "put") then put_of words
+    if bytes_eq verb (codes "put") then put_of_words words
     else if bytes_eq verb (codes "get") then get_of words
     else if bytes_eq verb (codes "del") then del_of words
     else if bytes_eq verb (codes "flush") then flush_of words
@@ -129,12 +129,12 @@ line_of verb words =
 abbrev pub said_of : List (List ℕ) → Option Item
 said_of [] = None
 said_of (word ∷ []) = if bytes_eq word (codes "join") then Some Joined else None
-said_of (lane ∷ verb ∷ words) = option_and_then (λ l. option_and_then (λ line. Some (OnLane l line)) (line_of verb words)) (lane_of lane)
+said_of (lane ∷ verb ∷ words) = option_and_then (λ l. option_and_then (λ line. Some (OnLane l line)) (line_of verb words)) (lane_of_text lane)
 
 -- an empty line and one that begins with `#` are passed over
 abbrev pub spelled_of : List ℕ → Option Item
 spelled_of [] = Some Skipped
-spelled_of (byte ∷ bytes) = if nat_eq byte 35 then Some Skipped else said_of (words_of (byte ∷ bytes))
+spelled_of (byte ∷ bytes) = if nat_eq byte 35 then Some Skipped else said_of (words_of_line (byte ∷ bytes))
 
 -- what a line says, if it is a workload line
 abbrev pub item_of : List ℕ → Option Item

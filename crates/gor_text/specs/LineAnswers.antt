@@ -45,9 +45,9 @@ FollowsFloor shard window (reply.Floor floor) rest = Finishes shard window rest
 FollowsFloor shard window _ rest = rest ≡ []
 
 -- the gets of a merge, and the points that each name gave
-abbrev pub points_of : Reply → List Point
-points_of (reply.Points points) = points
-points_of _ = []
+abbrev pub points_of_reply : Reply → List Point
+points_of_reply (reply.Points points) = points
+points_of_reply _ = []
 
 pub data Gets (shards from to : ℕ) : List (List ℕ) → List Act → List (List Point) → Type 0 where
   none : Gets shards from to [] [] []
@@ -55,7 +55,7 @@ pub data Gets (shards from to : ℕ) : List (List ℕ) → List Act → List (Li
       → Gets shards from to names acts lists → Gets shards from to (name ∷ names) (Refused reason.Name ∷ acts) ([] ∷ lists)
   got : (name : List ℕ) (names : List (List ℕ)) (acts : List Act) (lists : List (List Point)) (number : ℕ) (reply : Reply) → IsName name
       → Gets shards from to names acts lists
-      → Gets shards from to (name ∷ names) (Made (shard_of name shards) number (call.Get (key_of name) from to) reply ∷ acts) (points_of reply ∷ lists)
+      → Gets shards from to (name ∷ names) (Made (shard_of name shards) number (call.Get (key_of name) from to) reply ∷ acts) (points_of_reply reply ∷ lists)
 
 pub data LineAnswers (shards : ℕ) : Line → List Act → Type 0 where
   put_name : (name : List ℕ) (time word : ℕ) → ¬ (IsName name) → LineAnswers shards (Put name time word) (Refused reason.Name ∷ [])

@@ -66,7 +66,7 @@ abbrev pub Rises : Printed → Printed → Type 0
 Rises p q = (p.phase < q.phase) ⊎ (p.lane ≡ q.lane) → p.number < q.number
 
 -- the history has this event under its number
-pub record StandsIn (H : History) (p : Printed) : Type 0 where
+pub record HasPrinted (H : History) (p : Printed) : Type 0 where
   pub event : Event
   pub at : slice_get (reverse H) p.number ≡ Some event
   pub lane : event.lane ≡ p.lane
@@ -77,7 +77,7 @@ pub record StandsIn (H : History) (p : Printed) : Type 0 where
 pub record IsPrinted (start : Start) (printed : List Printed) (H : History) : Type 0 where
   pub numbers : IsPermutation (range_with_len 0 (length H)) (map (λ p. p.number) printed)
   pub rising : EachBefore Rises printed
-  pub stands : AllByRecursion (StandsIn H) printed
+  pub stands : AllByRecursion (HasPrinted H) printed
   pub legal : Legal start H
 
 -- where a finish raised the floor, every key that is there is sealed up to it at the Take, or else at the Stop

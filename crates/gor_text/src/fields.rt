@@ -1,10 +1,10 @@
 //! Words, numbers and lanes in the bytes of a line.
 ghost use Rattle.std.specs.Prelude.{◌≡◌, [], ◌∷◌, length, MatchOption, IfOk, IfSome, Some, None, ◌<◌};
-ghost use Rattle.gor_text.specs.Grammar.{words_of, digit_in, value_from, number_of, word_of, lane_of};
+ghost use Rattle.gor_text.specs.Grammar.{words_of_line, digit_in, value_from, number_of_text, word_of, lane_of_text};
 
 /// The first word of a text, and the text behind the space that ends it.
 pub(crate) fn first_word(text: &[u8]) -> (&[u8], Option<&[u8]>)
-    ensures { MatchOption result.1 (words_of text.now ≡ result.0.now ∷ []) (λ rest. words_of text.now ≡ result.0.now ∷ words_of rest.now) }
+    ensures { MatchOption result.1 (words_of_line text.now ≡ result.0.now ∷ []) (λ rest. words_of_line text.now ≡ result.0.now ∷ words_of_line rest.now) }
 {
     for (at, byte) in text.iter().enumerate() {
         if *byte == b' ' {
@@ -40,7 +40,7 @@ fn value(base: u64, text: &[u8]) -> Option<u64>
 
 /// A decimal number below 2^64 that does not begin with a 0 of no need.
 pub fn read_number(text: &[u8]) -> Option<u64>
-    ensures { result ≡ number_of text.now }
+    ensures { result ≡ number_of_text text.now }
 {
     match text {
         [] => None,
@@ -62,7 +62,7 @@ pub(crate) fn word(text: &[u8]) -> Option<u64>
 
 /// A lane's number, 0 to 7.
 pub(crate) fn lane(text: &[u8]) -> Option<u32>
-    ensures value { result ≡ lane_of text.now }
+    ensures value { result ≡ lane_of_text text.now }
     ensures below { IfSome result (λ n. n < 8) }
 {
     let lane = read_number(text)?;

@@ -2,7 +2,7 @@
 ghost use Rattle.std.specs.Prelude.{◌≡◌, [], ◌∷◌, length, IfOk, IfSome, MatchOption, Some, None, option_map, if◌then◌else◌};
 ghost use Rattle.std.specs.Str.{is_utf8};
 ghost use Rattle.gor_text.specs.Workloads.{HasLane};
-ghost use Rattle.gor_text.specs.Grammar.{words_of, one_of, two_of, three_of, is_named, put_of, get_of, del_of, flush_of, finish_of, merge_of, names_of, line_of, said_of, spelled_of, item_of};
+ghost use Rattle.gor_text.specs.Grammar.{words_of_line, one_of, two_of, three_of, is_named, put_of_words, get_of, del_of, flush_of, finish_of, merge_of, names_of_words, line_of, said_of, spelled_of, item_of};
 
 use crate::fields::{first_word, lane, read_number, word};
 use crate::{Item, Line, Names};
@@ -11,7 +11,7 @@ use std::alloc::{AllocError, Global};
 
 /// The one word of a text.
 fn one_word(text: &[u8]) -> Option<&[u8]>
-    ensures { option_map (λ w. w.now) result ≡ one_of (words_of text.now) }
+    ensures { option_map (λ w. w.now) result ≡ one_of (words_of_line text.now) }
 {
     let (first, rest) = first_word(text);
     match rest {
@@ -22,7 +22,7 @@ fn one_word(text: &[u8]) -> Option<&[u8]>
 
 /// The two words of a text.
 fn two_words(text: &[u8]) -> Option<(&[u8], &[u8])>
-    ensures { option_map (λ w. (w.0.now, w.1.now)) result ≡ two_of (words_of text.now) }
+    ensures { option_map (λ w. (w.0.now, w.1.now)) result ≡ two_of (words_of_line text.now) }
 {
     let (first, rest) = first_word(text);
     let second = one_word(rest?)?;
@@ -31,7 +31,7 @@ fn two_words(text: &[u8]) -> Option<(&[u8], &[u8])>
 
 /// The three words of a text.
 fn three_words(text: &[u8]) -> Option<(&[u8], &[u8], &[u8])>
-    ensures { option_map (λ w. (w.0.now, w.1.now, w.2.now)) result ≡ three_of (words_of text.now) }
+    ensures { option_map (λ w. (w.0.now, w.1.now, w.2.now)) result ≡ three_of (words_of_line text.now) }
 {
     let (first, rest) = first_word(text);
     let (second, third) = two_words(rest?)?;
@@ -50,7 +50,7 @@ fn named(alloc: Global, name: &[u8]) -> Result<Option<Bytes>, AllocError>
 
 /// What is behind the word `put`.
 fn put_line(alloc: Global, words: &[u8]) -> Result<Option<Line>, AllocError>
-    ensures { IfOk result (λ line. line ≡ put_of (words_of words.now)) }
+    ensures { IfOk result (λ line. line ≡ put_of_words (words_of_line words.now)) }
 {
     let Some((name, time, bits)) = three_words(words) else {
         return Ok(None);
@@ -66,7 +66,7 @@ fn put_line(alloc: Global, words: &[u8]) -> Result<Option<Line>, AllocError>
 
 /// What is behind the word `get`.
 fn get_line(alloc: Global, words: &[u8]) -> Result<Option<Line>, AllocError>
-    ensures { IfOk result (λ line. line ≡ get_of (words_of words.now)) }
+    ensures { IfOk result (λ line. line ≡ get_of (words_of_line words.now)) }
 {
     let Some((name, from, to)) = three_words(words) else {
         return Ok(None);
@@ -82,7 +82,7 @@ fn get_line(alloc: Global, words: &[u8]) -> Result<Option<Line>, AllocError>
 
 /// What is behind the word `del`.
 fn del_line(alloc: Global, words: &[u8]) -> Result<Option<Line>, AllocError>
-    ensures { IfOk result (λ line. line ≡ del_of (words_of words.now)) }
+    ensures { IfOk result (λ line. line ≡ del_of (words_of_line words.now)) }
 {
     let Some(name) = one_word(words) else {
         return Ok(None);
@@ -95,7 +95,7 @@ fn del_line(alloc: Global, words: &[u8]) -> Result<Option<Line>, AllocError>
 
 /// What is behind the word `flush`.
 fn flush_line(words: &[u8]) -> Option<Line>
-    ensures { result ≡ flush_of (words_of words.now) }
+    ensures { result ≡ flush_of (words_of_line words.now) }
 {
     let shard = read_number(one_word(words)?)?;
     Some(Line::Flush { shard })
@@ -103,7 +103,7 @@ fn flush_line(words: &[u8]) -> Option<Line>
 
 /// What is behind the word `finish`.
 fn finish_line(words: &[u8]) -> Option<Line>
-    ensures { result ≡ finish_of (words_of words.now) }
+    ensures { result ≡ finish_of (words_of_line words.now) }
 {
     let (shard, window) = two_words(words)?;
     let shard = read_number(shard)?;
@@ -113,7 +113,7 @@ fn finish_line(words: &[u8]) -> Option<Line>
 
 /// The names behind the range of a merge: 1 to 16 words of a text.
 fn names(alloc: Global, words: &[u8]) -> Result<Option<Names>, AllocError>
-    ensures { IfOk result (λ names. names ≡ names_of (words_of words.now)) }
+    ensures { IfOk result (λ names. names ≡ names_of_words (words_of_line words.now)) }
 {
     let mut names = Names::new(alloc);
     let mut text = words;
@@ -133,7 +133,7 @@ fn names(alloc: Global, words: &[u8]) -> Result<Option<Names>, AllocError>
 
 /// What is behind the word `merge`.
 fn merge_line(alloc: Global, words: &[u8]) -> Result<Option<Line>, AllocError>
-    ensures { IfOk result (λ line. line ≡ merge_of (words_of words.now)) }
+    ensures { IfOk result (λ line. line ≡ merge_of (words_of_line words.now)) }
 {
     let (from, Some(words)) = first_word(words) else {
         return Ok(None);
@@ -152,7 +152,7 @@ fn merge_line(alloc: Global, words: &[u8]) -> Result<Option<Line>, AllocError>
 
 /// What a lane asks for by a verb and the words behind it.
 fn line(alloc: Global, verb: &[u8], words: &[u8]) -> Result<Option<Line>, AllocError>
-    ensures { IfOk result (λ line. line ≡ line_of verb.now (words_of words.now)) }
+    ensures { IfOk result (λ line. line ≡ line_of verb.now (words_of_line words.now)) }
 {
     if verb == b"put".as_slice() {
         put_line(alloc, words)
@@ -173,7 +173,7 @@ fn line(alloc: Global, verb: &[u8], words: &[u8]) -> Result<Option<Line>, AllocE
 
 /// What the words of a lane's line say, behind its lane.
 fn lane_item(alloc: Global, text: &[u8], words: &[u8]) -> Result<Option<Item>, AllocError>
-    ensures said { IfOk result (λ item. item ≡ said_of (text.now ∷ words_of words.now)) }
+    ensures said { IfOk result (λ item. item ≡ said_of (text.now ∷ words_of_line words.now)) }
     ensures lane { IfOk result (λ item. IfSome item HasLane) }
 {
     let (verb, Some(words)) = first_word(words) else {
@@ -190,7 +190,7 @@ fn lane_item(alloc: Global, text: &[u8], words: &[u8]) -> Result<Option<Item>, A
 
 /// What the words of a line say.
 fn said(alloc: Global, text: &[u8]) -> Result<Option<Item>, AllocError>
-    ensures said { IfOk result (λ item. item ≡ said_of (words_of text.now)) }
+    ensures said { IfOk result (λ item. item ≡ said_of (words_of_line text.now)) }
     ensures lane { IfOk result (λ item. IfSome item HasLane) }
 {
     match first_word(text) {

@@ -6,16 +6,16 @@ use Rattle.std.proofs.lemmas.List.{take-take, take_at, append_cancel_left}
 use Rattle.std.proofs.lemmas.Int.{ints}
 use Rattle.std.specs.Prelude.{ℤ, pos, negsuc}
 use Rattle.gor_bits.proofs.Words.{spelled_apart}
-use Rattle.gor_model.specs.Codes.{bits, Begins, time_code, change_code}
-use Rattle.gor_times.specs.Changes.{Case, same, near, middle, far, whole, prefix_of, width_of, low_of, form_of, IsShort, IsLonger, IsInRange}
+use Rattle.gor_model.specs.Codes.{bits, CodeBegins, time_code, change_code}
+use Rattle.gor_times.specs.Changes.{Case, same, near, middle, far, whole, prefix_of, width_of, low_of, form_of, EndsBeforeCase, IsLonger, IsCodedChange}
 use Rattle.gor_times.proofs.Fields.{same_bits, length-bits}
 use Rattle.gor_times.proofs.Codes.{code_same, code_near, code_middle, code_far, code_whole}
 
-front_of : (code rest : List Bool) (n : ℕ) → n ≤ length code → Begins code rest → take n rest ≡ take n code
+front_of : (code rest : List Bool) (n : ℕ) → n ≤ length code → CodeBegins code rest → take n rest ≡ take n code
 front_of code rest n short b = sym (take-take n (length code) rest short) ∙ ap (take n) b
 
 -- two forms of one case at the front of the same bits
-one_case : (case : Case) (rest : List Bool) (v v' : ℕ) → v < 2 ^ width_of case → v' < 2 ^ width_of case → Begins (form_of case v) rest → Begins (form_of case v') rest → v ≡ v'
+one_case : (case : Case) (rest : List Bool) (v v' : ℕ) → v < 2 ^ width_of case → v' < 2 ^ width_of case → CodeBegins (form_of case v) rest → CodeBegins (form_of case v') rest → v ≡ v'
 one_case case rest v v' p p' b b' =
     let w = width_of case in
     let lens : length (form_of case v) ≡ length (form_of case v') = omega (arith, length-append (prefix_of case) (bits w v), length-append (prefix_of case) (bits w v'), length-bits w v, length-bits w v') in
@@ -71,7 +71,7 @@ form_of_code d e rise fall = elim (cases_eq d e) [
   ]
 
 -- forms of two cases do not begin the same bits
-cases_apart : (c c' : Case) (rest : List Bool) (v v' : ℕ) → Begins (form_of c v) rest → Begins (form_of c' v') rest → c ≡ c'
+cases_apart : (c c' : Case) (rest : List Bool) (v v' : ℕ) → CodeBegins (form_of c v) rest → CodeBegins (form_of c' v') rest → c ≡ c'
 cases_apart same same rest v v' b b' = refl
 cases_apart same near rest v v' b b' = absurd (let g : ◌≡◌ {A = List Bool} (false ∷ []) (true ∷ []) = sym (front_of (form_of same v) rest 1 (omega arith) b) ∙ front_of (form_of near v') rest 1 (omega arith) b' in cc)
 cases_apart same middle rest v v' b b' = absurd (let g : ◌≡◌ {A = List Bool} (false ∷ []) (true ∷ []) = sym (front_of (form_of same v) rest 1 (omega arith) b) ∙ front_of (form_of middle v') rest 1 (omega arith) b' in cc)
@@ -99,19 +99,19 @@ cases_apart whole far rest v v' b b' = absurd (let g : ◌≡◌ {A = List Bool}
 cases_apart whole whole rest v v' b b' = refl
 
 -- forms at the front of the same bits are one
-pub forms_apart : (c c' : Case) (rest : List Bool) (v v' : ℕ) → v < 2 ^ width_of c → v' < 2 ^ width_of c' → Begins (form_of c v) rest → Begins (form_of c' v') rest → (c ≡ c') × (v ≡ v')
+pub forms_apart : (c c' : Case) (rest : List Bool) (v v' : ℕ) → v < 2 ^ width_of c → v' < 2 ^ width_of c' → CodeBegins (form_of c v) rest → CodeBegins (form_of c' v') rest → (c ≡ c') × (v ≡ v')
 forms_apart c c' rest v v' p p' b b' =
     let e : c' ≡ c = sym (cases_apart c c' rest v v' b b') in
     let q : v' < 2 ^ width_of c = subst (λ (k : Case). v' < 2 ^ width_of k) e p' in
-    let h : Begins (form_of c v') rest = subst (λ (k : Case). Begins (form_of k v') rest) e b' in
+    let h : CodeBegins (form_of c v') rest = subst (λ (k : Case). CodeBegins (form_of k v') rest) e b' in
     (sym e, one_case c rest v v' p q b h)
 
-pub begins_as : (code code' rest : List Bool) → code ≡ code' → Begins code rest → Begins code' rest
-begins_as code code' rest e b = subst (λ (k : List Bool). Begins k rest) e b
+pub begins_as : (code code' rest : List Bool) → code ≡ code' → CodeBegins code rest → CodeBegins code' rest
+begins_as code code' rest e b = subst (λ (k : List Bool). CodeBegins k rest) e b
 
 -- codes at the front of the same bits are of one change
 pub codes_apart : (d e d' e' : ℕ) (rest : List Bool) → e < d + 2 ^ 31 → d ≤ e + 2 ^ 31 → e' < d' + 2 ^ 31 → d' ≤ e' + 2 ^ 31 →
-    Begins (time_code d e) rest → Begins (time_code d' e') rest → e + d' ≡ e' + d
+    CodeBegins (time_code d e) rest → CodeBegins (time_code d' e') rest → e + d' ≡ e' + d
 codes_apart d e d' e' rest r f r' f' b b' =
     let a = form_of_code d e r f in
     let a' = form_of_code d' e' r' f' in
@@ -120,18 +120,18 @@ codes_apart d e d' e' rest r f r' f' b b' =
     omega (arith, a.1.1.change, a'.1.1.change, low, one.1)
 
 -- no code stands where the bits are short, or where a longer form stands
-pub short_apart : (d e : ℕ) (rest : List Bool) → e < d + 2 ^ 31 → d ≤ e + 2 ^ 31 → IsShort rest → Begins (time_code d e) rest → ⊥
+pub short_apart : (d e : ℕ) (rest : List Bool) → e < d + 2 ^ 31 → d ≤ e + 2 ^ 31 → EndsBeforeCase rest → CodeBegins (time_code d e) rest → ⊥
 short_apart d e rest r f short b =
     let a = form_of_code d e r f in
     let form = form_of a.0 a.1.0 in
-    let begins : Begins form rest = begins_as _ _ rest a.1.1.code b in
+    let begins : CodeBegins form rest = begins_as _ _ rest a.1.1.code b in
     let w = bits (width_of a.0) a.1.0 in
     let lens = length-append (prefix_of a.0) w in
     let front : take (length (prefix_of a.0)) rest ≡ prefix_of a.0 =
     front_of form rest (length (prefix_of a.0)) (omega (arith, lens)) begins ∙ take_at (prefix_of a.0) w (length (prefix_of a.0)) refl in
     omega (arith, short a.0 front, ap length begins, length-take (length form) rest, lens, length-bits (width_of a.0) a.1.0)
 
-pub longer_apart : (d e : ℕ) (rest : List Bool) → e < d + 2 ^ 31 → d ≤ e + 2 ^ 31 → IsLonger rest → Begins (time_code d e) rest → ⊥
+pub longer_apart : (d e : ℕ) (rest : List Bool) → e < d + 2 ^ 31 → d ≤ e + 2 ^ 31 → IsLonger rest → CodeBegins (time_code d e) rest → ⊥
 longer_apart d e rest r f long b =
     let a = form_of_code d e r f in
     let one = forms_apart a.0 long.case rest a.1.0 long.value a.1.1.fits long.fits (begins_as _ _ rest a.1.1.code b) long.begins in
@@ -141,16 +141,16 @@ longer_apart d e rest r f long b =
 
 -- ---- of changes alone
 
-pub changes_apart : (z z' : ℤ) (rest : List Bool) → IsInRange z → IsInRange z' → Begins (change_code z) rest → Begins (change_code z') rest → z ≡ z'
+pub changes_apart : (z z' : ℤ) (rest : List Bool) → IsCodedChange z → IsCodedChange z' → CodeBegins (change_code z) rest → CodeBegins (change_code z') rest → z ≡ z'
 changes_apart (pos n) (pos m) rest r r' b b' = let e = codes_apart 0 n 0 m rest (omega (arith, ints, r.high)) (omega arith) (omega (arith, ints, r'.high)) (omega arith) b b' in ap pos (omega (arith, e))
 changes_apart (pos n) (negsuc m) rest r r' b b' = let e = codes_apart 0 n (suc m) 0 rest (omega (arith, ints, r.high)) (omega arith) (omega arith) (omega (arith, ints, r'.low)) b b' in absurd (omega (arith, e))
 changes_apart (negsuc n) (pos m) rest r r' b b' = let e = codes_apart (suc n) 0 0 m rest (omega arith) (omega (arith, ints, r.low)) (omega (arith, ints, r'.high)) (omega arith) b b' in absurd (omega (arith, e))
 changes_apart (negsuc n) (negsuc m) rest r r' b b' = let e = codes_apart (suc n) 0 (suc m) 0 rest (omega arith) (omega (arith, ints, r.low)) (omega arith) (omega (arith, ints, r'.low)) b b' in ap negsuc (omega (arith, e))
 
-pub no_change_short : (z : ℤ) (rest : List Bool) → IsInRange z → IsShort rest → Begins (change_code z) rest → ⊥
+pub no_change_short : (z : ℤ) (rest : List Bool) → IsCodedChange z → EndsBeforeCase rest → CodeBegins (change_code z) rest → ⊥
 no_change_short (pos n) rest r short b = short_apart 0 n rest (omega (arith, ints, r.high)) (omega arith) short b
 no_change_short (negsuc n) rest r short b = short_apart (suc n) 0 rest (omega arith) (omega (arith, ints, r.low)) short b
 
-pub no_change_longer : (z : ℤ) (rest : List Bool) → IsInRange z → IsLonger rest → Begins (change_code z) rest → ⊥
+pub no_change_longer : (z : ℤ) (rest : List Bool) → IsCodedChange z → IsLonger rest → CodeBegins (change_code z) rest → ⊥
 no_change_longer (pos n) rest r long b = longer_apart 0 n rest (omega (arith, ints, r.high)) (omega arith) long b
 no_change_longer (negsuc n) rest r long b = longer_apart (suc n) 0 rest (omega arith) (omega (arith, ints, r.low)) long b

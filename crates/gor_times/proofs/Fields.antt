@@ -2,8 +2,8 @@
 use Rattle.std.proofs.Common.{◌≡◌, ℕ, zero, suc, ◌+◌, ◌*◌, ◌/◌, ◌%◌, ◌^◌, ◌<◌, List, [], ◌∷◌, ◌++◌, length, take, drop, Bool, refl, ap, ap₂, sym, ◌∙◌, arith, length-append}
 use Rattle.std.specs.Prelude.{nat_eq}
 use Rattle.std.proofs.lemmas.List.{take-take, take_at}
-use Rattle.gor_model.specs.Codes.{bits, Begins}
-use Rattle.gor_bits.specs.Spelled.{spelled, Stands}
+use Rattle.gor_model.specs.Codes.{bits, CodeBegins}
+use Rattle.gor_bits.specs.Spelled.{spelled, SpellsAt}
 use Rattle.gor_bits.proofs.Words.{spelled-append, spelled-mod, length-spelled, spelled-join}
 
 -- both crates spell a number alike
@@ -16,8 +16,8 @@ pub length-bits : (n v : ℕ) → length (bits n v) ≡ n
 length-bits n v = ap length (sym (same_bits n v)) ∙ length-spelled n v
 
 -- a number that stands at a place, whose first bits are a known prefix
-pub field_begins : (all : List Bool) (at count width code : ℕ) (front : List Bool) → Stands all at count code → count ≡ length front + width → Begins front (drop at all) →
-    Begins (front ++ bits width (code % 2 ^ width)) (drop at all)
+pub field_begins : (all : List Bool) (at count width code : ℕ) (front : List Bool) → SpellsAt all at count code → count ≡ length front + width → CodeBegins front (drop at all) →
+    CodeBegins (front ++ bits width (code % 2 ^ width)) (drop at all)
 field_begins all at count width code front s e b =
     let rest = drop at all in
     let v = code % 2 ^ width in

@@ -1,6 +1,6 @@
 -- Changes of differences as they stand in bits: a prefix that names a case, and a field of some bits behind it.
 use Rattle.std.specs.Prelude.{◌≡◌, ℕ, ◌+◌, ◌^◌, ◌<◌, ◌≤◌, List, [], ◌∷◌, ◌++◌, length, Bool, true, false, nat_lt, if◌then◌else◌, ℤ, pos, negsuc, ◌≤ℤ◌}
-use Rattle.gor_model.specs.Codes.{bits, Begins, time_code, change_code}
+use Rattle.gor_model.specs.Codes.{bits, CodeBegins, time_code, change_code}
 use Rattle.gor_times.specs.declared.fault.TimeFault.{TimeFault}
 use Rattle.gor_times.specs.declared.fault.TimeFault.TheVariants.{Short, Spelling, Order}
 
@@ -39,15 +39,15 @@ abbrev pub form_of : Case → ℕ → List Bool
 form_of case value = prefix_of case ++ bits (width_of case) value
 
 -- the bits end before any case's form is whole
-abbrev pub IsShort : List Bool → Type 0
-IsShort rest = (case : Case) → Begins (prefix_of case) rest → length rest < length (prefix_of case) + width_of case
+abbrev pub EndsBeforeCase : List Bool → Type 0
+EndsBeforeCase rest = (case : Case) → CodeBegins (prefix_of case) rest → length rest < length (prefix_of case) + width_of case
 
 -- a whole form stands there, and the code of its change is a shorter one
 pub record IsLonger (rest : List Bool) : Type 0 where
   pub case : Case
   pub value : ℕ
   pub fits : value < 2 ^ width_of case
-  pub begins : Begins (form_of case value) rest
+  pub begins : CodeBegins (form_of case value) rest
   pub longer : (d e : ℕ) → d + value ≡ e + low_of case value → length (time_code d e) < length (form_of case value)
 
 -- the code of a change by value less low stands there, and takes so many bits
@@ -56,24 +56,24 @@ pub record IsChange (rest : List Bool) (value low size : ℕ) : Type 0 where
   pub below : low ≤ 2 ^ 32
   pub within : size ≤ length rest
   pub signed : (value < low + 2 ^ 31) × (low ≤ value + 2 ^ 31)
-  pub code : (d e : ℕ) → d + value ≡ e + low → Begins (time_code d e) rest
+  pub code : (d e : ℕ) → d + value ≡ e + low → CodeBegins (time_code d e) rest
   pub long : (d e : ℕ) → d + value ≡ e + low → length (time_code d e) ≡ size
 
 -- why no code of a change stands there
-abbrev pub IsNoChange : ℕ → List Bool → TimeFault → Type 0
-IsNoChange at rest (Short place) = (place ≡ at) × IsShort rest
-IsNoChange at rest (Spelling place) = (place ≡ at) × IsLonger rest
-IsNoChange at rest (Order place) = ⊥
+abbrev pub IsNoTimeChange : ℕ → List Bool → TimeFault → Type 0
+IsNoTimeChange at rest (Short place) = (place ≡ at) × EndsBeforeCase rest
+IsNoTimeChange at rest (Spelling place) = (place ≡ at) × IsLonger rest
+IsNoTimeChange at rest (Order place) = ⊥
 
 -- the code of a change stands at a place of these bits, and this is the next one
 pub record IsChangeAt (rest : List Bool) (at : ℕ) (d : ℤ) (next : ℕ) : Type 0 where
-  pub begins : Begins (change_code d) rest
+  pub begins : CodeBegins (change_code d) rest
   pub place : next ≡ at + length (change_code d)
   pub within : length (change_code d) ≤ length rest
   pub low : negsuc 2147483647 ≤ℤ d
   pub high : d ≤ℤ pos 2147483647
 
 -- a change that the code has
-pub record IsInRange (d : ℤ) : Type 0 where
+pub record IsCodedChange (d : ℤ) : Type 0 where
   pub low : negsuc 2147483647 ≤ℤ d
   pub high : d ≤ℤ pos 2147483647

@@ -1,8 +1,8 @@
 //! A change of differences, by the five cases of the time code.
 ghost use Rattle.std.specs.Prelude.{◌≡◌, ℕ, ◌+◌, ◌-◌, ◌*◌, ◌^◌, ◌<◌, ◌≤◌, ◌++◌, [], ◌∷◌, length, drop, true, false, IfOk, IfErr};
 ghost use Rattle.gor_bits.specs.Spelled.{spelled};
-ghost use Rattle.gor_model.specs.Codes.{time_code, Begins};
-ghost use Rattle.gor_times.specs.Changes.{IsChange, IsNoChange};
+ghost use Rattle.gor_model.specs.Codes.{time_code, CodeBegins};
+ghost use Rattle.gor_times.specs.Changes.{IsChange, IsNoTimeChange};
 
 use crate::fault::TimeFault;
 use gor_bits::Bits;
@@ -78,7 +78,7 @@ pub fn write_change(bits: &mut Bits, earlier: u64, later: u64)
 /// The change whose code stands at `at`.
 pub fn read_change(bits: &Bits, at: usize) -> Result<Change, TimeFault>
     ensures ok { IfOk result (λ change. IsChange (drop at bits.now.bits) change.value change.low change.size) }
-    ensures err { IfErr result (IsNoChange at (drop at bits.now.bits)) }
+    ensures err { IfErr result (IsNoTimeChange at (drop at bits.now.bits)) }
 {
     let Some(first) = bits.get(at, 1) else {
         return Err(TimeFault::Short { at });
@@ -112,9 +112,9 @@ pub fn read_change(bits: &Bits, at: usize) -> Result<Change, TimeFault>
 }
 
 fn read_near(bits: &Bits, at: usize) -> Result<Change, TimeFault>
-    requires { Begins (true ∷ false ∷ []) (drop at bits.now.bits) }
+    requires { CodeBegins (true ∷ false ∷ []) (drop at bits.now.bits) }
     ensures ok { IfOk result (λ change. IsChange (drop at bits.now.bits) change.value change.low change.size) }
-    ensures err { IfErr result (IsNoChange at (drop at bits.now.bits)) }
+    ensures err { IfErr result (IsNoTimeChange at (drop at bits.now.bits)) }
 {
     let Some(code) = bits.get(at, 9) else {
         return Err(TimeFault::Short { at });
@@ -131,9 +131,9 @@ fn read_near(bits: &Bits, at: usize) -> Result<Change, TimeFault>
 }
 
 fn read_middle(bits: &Bits, at: usize) -> Result<Change, TimeFault>
-    requires { Begins (true ∷ true ∷ false ∷ []) (drop at bits.now.bits) }
+    requires { CodeBegins (true ∷ true ∷ false ∷ []) (drop at bits.now.bits) }
     ensures ok { IfOk result (λ change. IsChange (drop at bits.now.bits) change.value change.low change.size) }
-    ensures err { IfErr result (IsNoChange at (drop at bits.now.bits)) }
+    ensures err { IfErr result (IsNoTimeChange at (drop at bits.now.bits)) }
 {
     let Some(code) = bits.get(at, 12) else {
         return Err(TimeFault::Short { at });
@@ -150,9 +150,9 @@ fn read_middle(bits: &Bits, at: usize) -> Result<Change, TimeFault>
 }
 
 fn read_far(bits: &Bits, at: usize) -> Result<Change, TimeFault>
-    requires { Begins (true ∷ true ∷ true ∷ false ∷ []) (drop at bits.now.bits) }
+    requires { CodeBegins (true ∷ true ∷ true ∷ false ∷ []) (drop at bits.now.bits) }
     ensures ok { IfOk result (λ change. IsChange (drop at bits.now.bits) change.value change.low change.size) }
-    ensures err { IfErr result (IsNoChange at (drop at bits.now.bits)) }
+    ensures err { IfErr result (IsNoTimeChange at (drop at bits.now.bits)) }
 {
     let Some(code) = bits.get(at, 16) else {
         return Err(TimeFault::Short { at });
@@ -169,9 +169,9 @@ fn read_far(bits: &Bits, at: usize) -> Result<Change, TimeFault>
 }
 
 fn read_whole(bits: &Bits, at: usize) -> Result<Change, TimeFault>
-    requires { Begins (true ∷ true ∷ true ∷ true ∷ []) (drop at bits.now.bits) }
+    requires { CodeBegins (true ∷ true ∷ true ∷ true ∷ []) (drop at bits.now.bits) }
     ensures ok { IfOk result (λ change. IsChange (drop at bits.now.bits) change.value change.low change.size) }
-    ensures err { IfErr result (IsNoChange at (drop at bits.now.bits)) }
+    ensures err { IfErr result (IsNoTimeChange at (drop at bits.now.bits)) }
 {
     let Some(code) = bits.get(at, 36) else {
         return Err(TimeFault::Short { at });

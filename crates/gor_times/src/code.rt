@@ -1,8 +1,8 @@
 //! The code of a change alone.
 ghost use Rattle.std.specs.Prelude.{◌≡◌, ◌+◌, ◌-◌, ◌^◌, ◌≤◌, ◌++◌, ℤ, pos, negsuc, ◌≤ℤ◌, length, drop, IfOk, IfErr, IsOkAnd};
 ghost use Rattle.gor_bits.specs.BitString.{BitString};
-ghost use Rattle.gor_model.specs.Codes.{change_code, Begins};
-ghost use Rattle.gor_times.specs.Changes.{IsNoChange, IsChangeAt, IsInRange};
+ghost use Rattle.gor_model.specs.Codes.{change_code, CodeBegins};
+ghost use Rattle.gor_times.specs.Changes.{IsNoTimeChange, IsChangeAt, IsCodedChange};
 
 use crate::change::{read_change, write_change};
 use crate::fault::TimeFault;
@@ -28,15 +28,15 @@ pub fn write_code(bits: &mut Bits, d: i64)
 /// is read, whatever follows.
 pub fn read_code(bits: &Bits, at: usize) -> Result<(i64, usize), TimeFault>
     ensures ok { IfOk result (λ read. IsChangeAt (drop at bits.now.bits) at read.0 read.1) }
-    ensures err { IfErr result (IsNoChange at (drop at bits.now.bits)) }
-    ensures found { (d : ℤ) → IsInRange d → Begins (change_code d) (drop at bits.now.bits) → IsOkAnd result (λ read. read.0 ≡ d) }
+    ensures err { IfErr result (IsNoTimeChange at (drop at bits.now.bits)) }
+    ensures found { (d : ℤ) → IsCodedChange d → CodeBegins (change_code d) (drop at bits.now.bits) → IsOkAnd result (λ read. read.0 ≡ d) }
 {
     read_signed(bits, at)
 }
 
 fn read_signed(bits: &Bits, at: usize) -> Result<(i64, usize), TimeFault>
     ensures ok { IfOk result (λ read. IsChangeAt (drop at bits.now.bits) at read.0 read.1) }
-    ensures err { IfErr result (IsNoChange at (drop at bits.now.bits)) }
+    ensures err { IfErr result (IsNoTimeChange at (drop at bits.now.bits)) }
 {
     let _len = bits.len();
     let change = read_change(bits, at)?;

@@ -3,8 +3,8 @@ ghost use Rattle.std.specs.Prelude.{◌≡◌, ℕ, ◌+◌, ◌-◌, ◌*◌, �
 ghost use Rattle.gor_bits.specs.BitString.{BitString};
 ghost use Rattle.gor_model.specs.declared.point.Point.{Point};
 ghost use Rattle.gor_model.specs.Windows.{window_length};
-ghost use Rattle.gor_model.specs.Codes.{first_width, Begins};
-ghost use Rattle.gor_times.specs.Times.{TimeMark, IsInside, IsNext, IsTimeAt, IsExactly, FindsTime, CodesAsModel, IsTimeFault, IsFirstFault, IsFaultBehind, first_mark, mark_after, mark_of, next_code, code_behind};
+ghost use Rattle.gor_model.specs.Codes.{first_width, CodeBegins};
+ghost use Rattle.gor_times.specs.Times.{TimeMark, IsInWindow, IsNext, IsTimeAt, IsExactTime, FindsTime, CodesAsModel, IsTimeFault, IsFirstTimeFault, IsFaultBehind, first_time_mark, time_mark_after, time_mark_of, next_time_code, code_behind};
 
 use crate::change::{read_change, write_change};
 use crate::fault::TimeFault;
@@ -23,13 +23,13 @@ pub struct TimeState {
 }
 
 impl Model for TimeState {
-    ghost use Rattle.gor_times.specs.Times.{TimeMark, IsInside};
+    ghost use Rattle.gor_times.specs.Times.{TimeMark, IsInWindow};
 
     ghost Value = { TimeMark };
 
     ghost view = { λ s. record { unit = s.unit; window = s.window; begun = s.begun; last = s.last; difference = s.difference } };
 
-    ghost invariant = { λ s. IsInside (record { unit = s.unit; window = s.window; begun = s.begun; last = s.last; difference = s.difference }) };
+    ghost invariant = { λ s. IsInWindow (record { unit = s.unit; window = s.window; begun = s.begun; last = s.last; difference = s.difference }) };
 }
 
 /// The bits of a first time.
@@ -49,7 +49,7 @@ fn width_of(unit: Unit) -> u32
 impl TimeState {
     /// The state of a block of this window that has no time yet. `window` counts two hours from time 0.
     pub fn new(unit: Unit, window: u32) -> TimeState
-        ensures { result ≡ first_mark unit window }
+        ensures { result ≡ first_time_mark unit window }
     {
         TimeState {
             unit,
@@ -79,9 +79,9 @@ impl TimeState {
     pub fn write(&mut self, bits: &mut Bits, time: u64)
         requires room { 36 ≤ bits.old.spare }
         requires next { IsNext self.old time }
-        ensures state { self.new ≡ mark_after self.old time }
-        ensures bits { bits.new ≡ record { bits = bits.old.bits ++ next_code self.old time; spare = bits.old.spare - length (next_code self.old time) } }
-        ensures alone { (other : ℕ) → IsNext self.old other → (after : List Bool) → Begins (next_code self.old other) (next_code self.old time ++ after) → other ≡ time }
+        ensures state { self.new ≡ time_mark_after self.old time }
+        ensures bits { bits.new ≡ record { bits = bits.old.bits ++ next_time_code self.old time; spare = bits.old.spare - length (next_time_code self.old time) } }
+        ensures alone { (other : ℕ) → IsNext self.old other → (after : List Bool) → CodeBegins (next_time_code self.old other) (next_time_code self.old time ++ after) → other ≡ time }
         ensures model { CodesAsModel self.old time }
     {
         let difference = time - self.last;
@@ -114,7 +114,7 @@ impl TimeState {
     fn read_first(&self, bits: &Bits, at: usize) -> Result<(u64, usize, TimeState), TimeFault>
         requires { self.now.begun ≡ false }
         ensures ok { IfOk result (λ read. IsTimeAt self.now (drop at bits.now.bits) at read.0 read.1 read.2) }
-        ensures err { IfErr result (IsFirstFault self.now at (drop at bits.now.bits)) }
+        ensures err { IfErr result (IsFirstTimeFault self.now at (drop at bits.now.bits)) }
     {
         let _len = bits.len();
         let width = width_of(self.unit);
@@ -158,7 +158,7 @@ impl TimeState {
     /// The state behind one more time.
     fn after(&self, time: u64) -> TimeState
         requires { IsNext self.now time }
-        ensures { result ≡ mark_after self.now time }
+        ensures { result ≡ time_mark_after self.now time }
     {
         TimeState {
             unit: self.unit,

@@ -5,18 +5,18 @@ use Rattle.std.specs.Int.Bits.{xor_assoc, xor_self, xor_zero_r}
 use Rattle.std.proofs.lemmas.Nat.{xor_lt}
 use Rattle.std.proofs.lemmas.List.{take_at}
 use Rattle.gor_bits.proofs.Words.{spelled_apart}
-use Rattle.gor_model.specs.Codes.{bits, Begins, ValueWindow, window_of, window_after, value_code, changed_code}
+use Rattle.gor_model.specs.Codes.{bits, CodeBegins, ValueWindow, window_of, window_after, value_code, changed_code}
 use Rattle.gor_values.specs.declared.fault.ValueFault.{ValueFault}
 use Rattle.gor_values.specs.declared.fault.ValueFault.TheVariants.{Short, Spelling}
 use Rattle.gor_values.specs.declared.window.Window.{Window}
-use Rattle.gor_values.specs.Words.{ValueMark, mark_of, mark_after, next_code, IsInWord, IsNoChange, IsFirstFault, window_shown, IsWordAt, IsExactly}
+use Rattle.gor_values.specs.Words.{ValueMark, value_mark_of, value_mark_after, next_word_code, IsInWord, IsNoWordChange, IsFirstWordFault, window_shown, IsWordAt, IsExactWord}
 use Rattle.gor_values.proofs.Pushes.{same_bits, length-bits}
 use Rattle.gor_values.proofs.Apart.{begins_as, reaches, changes_apart, short_apart}
 
-next_behind : (m : ValueMark) (word : ℕ) → m.begun ≡ true → next_code m word ≡ changed_code m.window (bit_xor word m.last)
+next_behind : (m : ValueMark) (word : ℕ) → m.begun ≡ true → next_word_code m word ≡ changed_code m.window (bit_xor word m.last)
 next_behind m word e = rw e refl
 
-next_first : (m : ValueMark) (word : ℕ) → m.begun ≡ false → next_code m word ≡ bits 64 word
+next_first : (m : ValueMark) (word : ℕ) → m.begun ≡ false → next_word_code m word ≡ bits 64 word
 next_first m word e = rw e refl
 
 -- a word is what changed in it behind the last one
@@ -32,7 +32,7 @@ pub record IsSound (m : ValueMark) : Type 0 where
   pub window : IsInWord m.window
 
 -- codes of next words at the front of the same bits are of one word
-pub next_apart : (m : ValueMark) (rest : List Bool) (a b : ℕ) → IsSound m → a < 2 ^ 64 → b < 2 ^ 64 → Begins (next_code m a) rest → Begins (next_code m b) rest → a ≡ b
+pub next_apart : (m : ValueMark) (rest : List Bool) (a b : ℕ) → IsSound m → a < 2 ^ 64 → b < 2 ^ 64 → CodeBegins (next_word_code m a) rest → CodeBegins (next_word_code m b) rest → a ≡ b
 next_apart m rest a b sound p q x y = by_bit m.begun refl where
   by_bit : (c : Bool) → m.begun ≡ c → a ≡ b
   by_bit true begun =
@@ -44,37 +44,37 @@ next_apart m rest a b sound p q x y = by_bit m.begun refl where
       spelled_apart 64 a b p q (same_bits 64 a ∙ sym first ∙ second ∙ sym (same_bits 64 b))
 
 -- the code of a word and whatever follows begin with the code of no other word
-pub next_alone : (m : ValueMark) (after : List Bool) (a b : ℕ) → IsSound m → a < 2 ^ 64 → b < 2 ^ 64 → Begins (next_code m b) (next_code m a ++ after) → b ≡ a
-next_alone m after a b sound p q h = next_apart m (next_code m a ++ after) b a sound q p h (take_at (next_code m a) after (length (next_code m a)) refl)
+pub next_alone : (m : ValueMark) (after : List Bool) (a b : ℕ) → IsSound m → a < 2 ^ 64 → b < 2 ^ 64 → CodeBegins (next_word_code m b) (next_word_code m a ++ after) → b ≡ a
+next_alone m after a b sound p q h = next_apart m (next_word_code m a ++ after) b a sound q p h (take_at (next_word_code m a) after (length (next_word_code m a)) refl)
 
 -- no fault where the code of a word stands
-no_fault_behind : (m : ValueMark) (rest : List Bool) (at word : ℕ) (f : ValueFault) → IsSound m → m.begun ≡ true → word < 2 ^ 64 → Begins (next_code m word) rest → IsNoChange m.window at rest f → ⊥
+no_fault_behind : (m : ValueMark) (rest : List Bool) (at word : ℕ) (f : ValueFault) → IsSound m → m.begun ≡ true → word < 2 ^ 64 → CodeBegins (next_word_code m word) rest → IsNoWordChange m.window at rest f → ⊥
 no_fault_behind m rest at word (Short place) sound begun p b e = short_apart m.window rest _ (xor_lt 64 word m.last p sound.last) e.1 (begins_as _ _ rest (next_behind m word begun) b)
 no_fault_behind m rest at word (Spelling place) sound begun p b e = e.1.none _ (xor_lt 64 word m.last p sound.last) (begins_as _ _ rest (next_behind m word begun) b)
 
-no_fault_first : (m : ValueMark) (rest : List Bool) (at word : ℕ) (f : ValueFault) → m.begun ≡ false → Begins (next_code m word) rest → IsFirstFault at rest f → ⊥
+no_fault_first : (m : ValueMark) (rest : List Bool) (at word : ℕ) (f : ValueFault) → m.begun ≡ false → CodeBegins (next_word_code m word) rest → IsFirstWordFault at rest f → ⊥
 no_fault_first m rest at word (Short place) begun b e = omega (arith, e.1, reaches _ rest (begins_as _ _ rest (next_first m word begun) b), length-bits 64 word)
 no_fault_first m rest at word (Spelling place) begun b e = e
 
 -- what a reader gave where the code of a word stands
-exact : (m : ValueMark) (rest : List Bool) (at word read next : ℕ) (after : ValueMark) → IsSound m → word < 2 ^ 64 → Begins (next_code m word) rest → IsWordAt m rest at read next after → IsExactly m at word read next after
+exact : (m : ValueMark) (rest : List Bool) (at word read next : ℕ) (after : ValueMark) → IsSound m → word < 2 ^ 64 → CodeBegins (next_word_code m word) rest → IsWordAt m rest at read next after → IsExactWord m at word read next after
 exact m rest at word read next after sound p b w =
     let is : read ≡ word = next_apart m rest read word sound w.small p w.begins b in
     record {
       same = is;
-      place = subst (λ (n : ℕ). next ≡ at + length (next_code m n)) is w.place;
-      state = subst (λ (n : ℕ). after ≡ mark_after m n) is w.state;
+      place = subst (λ (n : ℕ). next ≡ at + length (next_word_code m n)) is w.place;
+      state = subst (λ (n : ℕ). after ≡ value_mark_after m n) is w.state;
     }
 
 pub found_behind : (m : ValueMark) (rest : List Bool) (at : ℕ) (result : Result (ℕ × ℕ × ValueMark) ValueFault) → IsSound m → m.begun ≡ true →
-    IfOk result (λ read. IsWordAt m rest at read.0 read.1 read.2) → IfErr result (IsNoChange m.window at rest) →
-    (word : ℕ) → word < 2 ^ 64 → Begins (next_code m word) rest → IsOkAnd result (λ read. IsExactly m at word read.0 read.1 read.2)
+    IfOk result (λ read. IsWordAt m rest at read.0 read.1 read.2) → IfErr result (IsNoWordChange m.window at rest) →
+    (word : ℕ) → word < 2 ^ 64 → CodeBegins (next_word_code m word) rest → IsOkAnd result (λ read. IsExactWord m at word read.0 read.1 read.2)
 found_behind m rest at (Ok read) sound begun ok err word p b = exact m rest at word read.0 read.1 read.2 sound p b ok
 found_behind m rest at (Err f) sound begun ok err word p b = absurd (no_fault_behind m rest at word f sound begun p b err)
 
 pub found_first : (m : ValueMark) (rest : List Bool) (at : ℕ) (result : Result (ℕ × ℕ × ValueMark) ValueFault) → IsSound m → m.begun ≡ false →
-    IfOk result (λ read. IsWordAt m rest at read.0 read.1 read.2) → IfErr result (IsFirstFault at rest) →
-    (word : ℕ) → word < 2 ^ 64 → Begins (next_code m word) rest → IsOkAnd result (λ read. IsExactly m at word read.0 read.1 read.2)
+    IfOk result (λ read. IsWordAt m rest at read.0 read.1 read.2) → IfErr result (IsFirstWordFault at rest) →
+    (word : ℕ) → word < 2 ^ 64 → CodeBegins (next_word_code m word) rest → IsOkAnd result (λ read. IsExactWord m at word read.0 read.1 read.2)
 found_first m rest at (Ok read) sound begun ok err word p b = exact m rest at word read.0 read.1 read.2 sound p b ok
 found_first m rest at (Err f) sound begun ok err word p b = absurd (no_fault_first m rest at word f begun b err)
 
@@ -85,11 +85,11 @@ shown_in_word (Some w) = w.inside
 
 -- ---- the state that runs along, and the list of words before
 
-pub mark_window : (words : List ℕ) → (mark_of words).window ≡ window_of words
+pub mark_window : (words : List ℕ) → (value_mark_of words).window ≡ window_of words
 mark_window [] = refl
 mark_window (word ∷ []) = refl
 mark_window (word ∷ before ∷ older) = ap (window_after (bit_xor word before)) (mark_window (before ∷ older))
 
-pub next_value : (words : List ℕ) (word : ℕ) → next_code (mark_of words) word ≡ value_code words word
+pub next_value : (words : List ℕ) (word : ℕ) → next_word_code (value_mark_of words) word ≡ value_code words word
 next_value [] word = refl
 next_value (before ∷ older) word = ap (λ (w : Option ValueWindow). changed_code w (bit_xor word before)) (mark_window (before ∷ older))

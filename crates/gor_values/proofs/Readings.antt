@@ -5,20 +5,20 @@ use Rattle.std.specs.Int.Count.{count_leading_zeros, count_trailing_zeros}
 use Rattle.std.proofs.lemmas.Bool.{cases_eq}
 use Rattle.std.proofs.lemmas.List.{take-take, take_at, append_cancel_left}
 use Rattle.std.proofs.lemmas.Nat.{shl-shr, shr_below}
-use Rattle.gor_bits.specs.Spelled.{spelled, Stands}
+use Rattle.gor_bits.specs.Spelled.{spelled, SpellsAt}
 use Rattle.gor_bits.proofs.Words.{spelled-append, spelled-join, length-spelled, spelled_apart}
 use Rattle.gor_bits.proofs.Pieces.{seen_twice}
-use Rattle.gor_model.specs.Codes.{bits, Begins, ValueWindow, changed_code, fitting_code, new_code, window_for, fits}
-use Rattle.gor_values.specs.Words.{IsShort, IsWrong, IsChanged, Makes}
+use Rattle.gor_model.specs.Codes.{bits, CodeBegins, ValueWindow, changed_code, fitting_code, new_code, window_for, fits}
+use Rattle.gor_values.specs.Words.{EndsWithinForm, IsWrong, IsChanged, MakesWord}
 use Rattle.gor_values.proofs.Pushes.{same_bits, length-bits}
 use Rattle.gor_values.proofs.WordLaws.{changed_zero, changed_fits, changed_new, fits_parts, fits_from, word_below, piece_fits, piece_whole, lead_of_piece, tail_of_piece, moved, moved_some, zeros_apart}
 
 -- the first bits of a code that begins some bits
-pub begins_front : (code rest : List Bool) (n : ℕ) → n ≤ length code → Begins code rest → take n rest ≡ take n code
+pub begins_front : (code rest : List Bool) (n : ℕ) → n ≤ length code → CodeBegins code rest → take n rest ≡ take n code
 begins_front code rest n short b = sym (take-take n (length code) rest short) ∙ ap (take n) b
 
 -- a number that stands there, and one of k further bits
-pub stands_more : (all : List Bool) (at n k a b : ℕ) → Stands all at n a → Stands all at (n + k) b → b / 2 ^ k ≡ a
+pub stands_more : (all : List Bool) (at n k a b : ℕ) → SpellsAt all at n a → SpellsAt all at (n + k) b → b / 2 ^ k ≡ a
 stands_more all at n k a b s t =
     let rest = drop at all in
     let e : take n (spelled (n + k) b) ≡ spelled n a = ap (take n) (sym t.spelling) ∙ take-take n (n + k) rest (omega arith) ∙ s.spelling in
@@ -29,35 +29,35 @@ pub length-head : (a b : ℕ) → length ((true ∷ true ∷ []) ++ bits 5 a ++ 
 length-head a b = omega (arith, length-append ((true ∷ true ∷ []) ++ bits 5 a) (bits 6 b), length-append (true ∷ true ∷ []) (bits 5 a), length-bits 5 a, length-bits 6 b)
 
 -- a set first bit is no unchanged word, and `10` is no new window
-pub not_zero : (w : Option ValueWindow) (rest : List Bool) (x : ℕ) → take 1 rest ≡ true ∷ [] → x ≡ 0 → Begins (changed_code w x) rest → ⊥
+pub not_zero : (w : Option ValueWindow) (rest : List Bool) (x : ℕ) → take 1 rest ≡ true ∷ [] → x ≡ 0 → CodeBegins (changed_code w x) rest → ⊥
 not_zero w rest x one z begins =
     let code = changed_zero w x z in
     let e : take 1 rest ≡ false ∷ [] = ap (λ (xs : List Bool). take (length xs) rest) (sym code) ∙ begins ∙ code in
     absurd (let g : ◌≡◌ {A = List Bool} (true ∷ []) (false ∷ []) = sym one ∙ e in cc)
 
-pub front_of_new : (w : Option ValueWindow) (rest : List Bool) (x : ℕ) → x ≢ 0 → fits x w ≡ false → Begins (changed_code w x) rest → take 2 rest ≡ true ∷ true ∷ []
+pub front_of_new : (w : Option ValueWindow) (rest : List Bool) (x : ℕ) → x ≢ 0 → fits x w ≡ false → CodeBegins (changed_code w x) rest → take 2 rest ≡ true ∷ true ∷ []
 front_of_new w rest x some unfit begins =
     let code = changed_new w x some unfit in
-    let moved_begins : Begins (new_code (window_for x) x) rest = ap (λ (xs : List Bool). take (length xs) rest) (sym code) ∙ begins ∙ code in
+    let moved_begins : CodeBegins (new_code (window_for x) x) rest = ap (λ (xs : List Bool). take (length xs) rest) (sym code) ∙ begins ∙ code in
     begins_front (new_code (window_for x) x) rest 2 (omega arith) moved_begins
 
-pub front_of_held : (v : ValueWindow) (rest : List Bool) (x : ℕ) → x ≢ 0 → fits x (Some v) ≡ true → Begins (changed_code (Some v) x) rest → take 2 rest ≡ true ∷ false ∷ []
+pub front_of_held : (v : ValueWindow) (rest : List Bool) (x : ℕ) → x ≢ 0 → fits x (Some v) ≡ true → CodeBegins (changed_code (Some v) x) rest → take 2 rest ≡ true ∷ false ∷ []
 front_of_held v rest x some fit begins =
     let code = changed_fits (Some v) x some fit in
-    let moved_begins : Begins (fitting_code (Some v) x) rest = ap (λ (xs : List Bool). take (length xs) rest) (sym code) ∙ begins ∙ code in
+    let moved_begins : CodeBegins (fitting_code (Some v) x) rest = ap (λ (xs : List Bool). take (length xs) rest) (sym code) ∙ begins ∙ code in
     begins_front (fitting_code (Some v) x) rest 2 (omega arith) moved_begins
 
 pub first_of_two : (rest : List Bool) (b : Bool) → take 2 rest ≡ true ∷ b ∷ [] → take 1 rest ≡ true ∷ []
 first_of_two rest b e = sym (take-take 1 2 rest (omega arith)) ∙ ap (take 1) e
 
 -- `11` is no code of a word that fits
-pub held_is_not : (w : Option ValueWindow) (rest : List Bool) (x : ℕ) → take 2 rest ≡ true ∷ true ∷ [] → x ≢ 0 → fits x w ≡ true → Begins (changed_code w x) rest → ⊥
+pub held_is_not : (w : Option ValueWindow) (rest : List Bool) (x : ℕ) → take 2 rest ≡ true ∷ true ∷ [] → x ≢ 0 → fits x w ≡ true → CodeBegins (changed_code w x) rest → ⊥
 held_is_not None rest x front some fit begins = absurd (let g : ◌≡◌ {A = Bool} false true = fit in cc)
 held_is_not (Some v) rest x front some fit begins =
     absurd (let g : ◌≡◌ {A = List Bool} (true ∷ true ∷ []) (true ∷ false ∷ []) = sym front ∙ front_of_held v rest x some fit begins in cc)
 
 -- a word that stays
-pub zero_changed : (w : Option ValueWindow) (all : List Bool) (at : ℕ) → Stands all at 1 0 → IsChanged w (drop at all) 0 1
+pub zero_changed : (w : Option ValueWindow) (all : List Bool) (at : ℕ) → SpellsAt all at 1 0 → IsChanged w (drop at all) 0 1
 unfolding spelled
 zero_changed w all at s =
     let code = changed_zero w 0 refl in
@@ -69,7 +69,7 @@ zero_changed w all at s =
     }
 
 -- a set first bit and nothing behind it
-pub short_front : (w : Option ValueWindow) (rest : List Bool) → take 1 rest ≡ true ∷ [] → length rest < 2 → IsShort w rest
+pub short_front : (w : Option ValueWindow) (rest : List Bool) → take 1 rest ≡ true ∷ [] → length rest < 2 → EndsWithinForm w rest
 short_front w rest one few = record {
   zero = λ b. absurd (let g : ◌≡◌ {A = List Bool} (true ∷ []) (false ∷ []) = sym one ∙ b in cc);
   held = λ b. absurd (omega (arith, ap length b, length-take 2 rest));
@@ -88,7 +88,7 @@ no_window rest front = record {
 
 -- ---- behind `10`
 
-pub short_held : (all : List Bool) (at : ℕ) (v : ValueWindow) → Stands all at 2 2 → length (drop at all) < 2 + v.len → IsShort (Some v) (drop at all)
+pub short_held : (all : List Bool) (at : ℕ) (v : ValueWindow) → SpellsAt all at 2 2 → length (drop at all) < 2 + v.len → EndsWithinForm (Some v) (drop at all)
 unfolding spelled
 short_held all at v two few =
     let front : take 2 (drop at all) ≡ true ∷ false ∷ [] = two.spelling in
@@ -102,7 +102,7 @@ short_held all at v two few =
           );
     }
 
-module _ (all : List Bool) (at : ℕ) (v : ValueWindow) (piece : ℕ) (two : Stands all at 2 2) (s : Stands all (at + 2) v.len piece) (room : v.lead + v.len ≤ 64) where
+module _ (all : List Bool) (at : ℕ) (v : ValueWindow) (piece : ℕ) (two : SpellsAt all at 2 2) (s : SpellsAt all (at + 2) v.len piece) (room : v.lead + v.len ≤ 64) where
   front : take 2 (drop at all) ≡ true ∷ false ∷ []
   unfolding spelled
   front = two.spelling
@@ -141,7 +141,7 @@ module _ (all : List Bool) (at : ℕ) (v : ValueWindow) (piece : ℕ) (two : Sta
       | inr some_x ↦ with_bit x small some_x begins (fits x (Some v)) refl
     ];
   } where
-    with_bit : (x : ℕ) → x < 2 ^ 64 → x ≢ 0 → Begins (changed_code (Some v) x) (drop at all) → (b : Bool) → fits x (Some v) ≡ b → ⊥
+    with_bit : (x : ℕ) → x < 2 ^ 64 → x ≢ 0 → CodeBegins (changed_code (Some v) x) (drop at all) → (b : Bool) → fits x (Some v) ≡ b → ⊥
     with_bit x small some begins true fit =
         let shift = 64 - v.lead - v.len in
         let code = changed_fits (Some v) x some fit in
@@ -182,32 +182,32 @@ window_inside x some small =
     let apart = zeros_apart x some small in
     (omega arith, omega arith, omega arith, omega arith, omega arith)
 
-module _ (w : Option ValueWindow) (all : List Bool) (at head lead len : ℕ) (two : Stands all at 2 3) (lead_is : lead ≡ head / 64 % 32) (len_is : len ≡ (head + 63) % 64 + 1) where
+module _ (w : Option ValueWindow) (all : List Bool) (at head lead len : ℕ) (two : SpellsAt all at 2 3) (lead_is : lead ≡ head / 64 % 32) (len_is : len ≡ (head + 63) % 64 + 1) where
   made_front : take 2 (drop at all) ≡ true ∷ true ∷ []
   unfolding spelled
   made_front = two.spelling
 
-  no_zero : Begins (false ∷ []) (drop at all) → ⊥
+  no_zero : CodeBegins (false ∷ []) (drop at all) → ⊥
   no_zero b = absurd (let g : ◌≡◌ {A = List Bool} (true ∷ []) (false ∷ []) = sym (first_of_two (drop at all) true made_front) ∙ b in cc)
 
-  no_held : Begins (true ∷ false ∷ []) (drop at all) → ⊥
+  no_held : CodeBegins (true ∷ false ∷ []) (drop at all) → ⊥
   no_held b = absurd (let g : ◌≡◌ {A = List Bool} (true ∷ true ∷ []) (true ∷ false ∷ []) = sym made_front ∙ b in cc)
 
-  pub short_head : length (drop at all) < 13 → IsShort w (drop at all)
+  pub short_head : length (drop at all) < 13 → EndsWithinForm w (drop at all)
   short_head few = record {
     zero = no_zero;
     held = λ b. absurd (no_held b);
     made = λ l n p q r b. omega arith;
   }
 
-  module _ (s : Stands all at 13 head) where
+  module _ (s : SpellsAt all at 13 head) where
     head_code : take 13 (drop at all) ≡ (true ∷ true ∷ []) ++ bits 5 lead ++ bits 6 (len % 64)
     head_code =
         let top : head / 2 ^ 11 ≡ 3 = stands_more all at 2 11 3 head two s in
         let whole : head ≡ (96 + lead) * 64 + len % 64 = omega arith in
         s.spelling ∙ ap (spelled 13) whole ∙ head_is lead (len % 64) (omega arith) (omega arith)
 
-    pub short_piece : length (drop at all) < 13 + len → IsShort w (drop at all)
+    pub short_piece : length (drop at all) < 13 + len → EndsWithinForm w (drop at all)
     short_piece few = record {
       zero = no_zero;
       held = λ b. absurd (no_held b);
@@ -218,14 +218,14 @@ module _ (w : Option ValueWindow) (all : List Bool) (at head lead len : ℕ) (tw
           omega (arith, same.1);
     }
 
-    module _ (piece : ℕ) (sp : Stands all (at + 13) len piece) where
+    module _ (piece : ℕ) (sp : SpellsAt all (at + 13) len piece) where
       reach_made : 13 + len ≤ length (drop at all)
       reach_made = omega (arith, sp.within, length-drop at all)
 
       made_code : take (13 + len) (drop at all) ≡ ((true ∷ true ∷ []) ++ bits 5 lead ++ bits 6 (len % 64)) ++ bits len piece
       made_code = seen_twice all at 13 len ∙ ap₂ (λ (xs ys : List Bool). xs ++ ys) head_code (sp.spelling ∙ same_bits len piece)
 
-      pub made_changed : (x : ℕ) → Makes w lead len piece x → IsChanged w (drop at all) x (13 + len)
+      pub made_changed : (x : ℕ) → MakesWord w lead len piece x → IsChanged w (drop at all) x (13 + len)
       made_changed x m =
           let v = window_for x in
           let pos : x ≢ 0 = λ z. omega (arith, m.some) in
@@ -243,7 +243,7 @@ module _ (w : Option ValueWindow) (all : List Bool) (at head lead len : ℕ) (tw
             within = reach_made;
           }
 
-      new_word : (x : ℕ) → x < 2 ^ 64 → x ≢ 0 → fits x w ≡ false → Begins (changed_code w x) (drop at all) → Makes w lead len piece x
+      new_word : (x : ℕ) → x < 2 ^ 64 → x ≢ 0 → fits x w ≡ false → CodeBegins (changed_code w x) (drop at all) → MakesWord w lead len piece x
       new_word x small pos unfit begins =
           let v = window_for x in
           let some : 0 < x = omega arith in
@@ -253,7 +253,7 @@ module _ (w : Option ValueWindow) (all : List Bool) (at head lead len : ℕ) (tw
           let shift = 64 - v.lead - v.len in
           let size : length (new_code v x) ≡ 13 + v.len =
           omega (arith, length-append front (bits v.len (x / 2 ^ shift)), length-head v.lead (v.len % 64), length-bits v.len (x / 2 ^ shift)) in
-          let there : Begins (new_code v x) (drop at all) = ap (λ (xs : List Bool). take (length xs) (drop at all)) (sym code) ∙ begins ∙ code in
+          let there : CodeBegins (new_code v x) (drop at all) = ap (λ (xs : List Bool). take (length xs) (drop at all)) (sym code) ∙ begins ∙ code in
           let first : take 13 (drop at all) ≡ front =
           begins_front (new_code v x) (drop at all) 13 (omega arith) there ∙ take_at front (bits v.len (x / 2 ^ shift)) 13 (length-head v.lead (v.len % 64)) in
           let same = heads_apart lead (len % 64) v.lead (v.len % 64) (omega arith) (omega arith) inside.0 (omega arith) (sym head_code ∙ first) in
@@ -277,7 +277,7 @@ module _ (w : Option ValueWindow) (all : List Bool) (at head lead len : ℕ) (tw
             unfit = unfit;
           }
 
-      pub made_wrong : ((x : ℕ) → Makes w lead len piece x → ⊥) → IsWrong w (drop at all)
+      pub made_wrong : ((x : ℕ) → MakesWord w lead len piece x → ⊥) → IsWrong w (drop at all)
       made_wrong refused = record {
         whole = λ short.
             let few : length (drop at all) < 13 + len = short.made lead len (omega arith) (omega arith) (omega arith) (ap (λ k. take k (drop at all)) (length-head lead (len % 64)) ∙ head_code) in
@@ -287,6 +287,6 @@ module _ (w : Option ValueWindow) (all : List Bool) (at head lead len : ℕ) (tw
           | inr some_x ↦ by_bit x small some_x begins refused (fits x w) refl
         ];
       } where
-        by_bit : (x : ℕ) → x < 2 ^ 64 → x ≢ 0 → Begins (changed_code w x) (drop at all) → ((y : ℕ) → Makes w lead len piece y → ⊥) → (b : Bool) → fits x w ≡ b → ⊥
+        by_bit : (x : ℕ) → x < 2 ^ 64 → x ≢ 0 → CodeBegins (changed_code w x) (drop at all) → ((y : ℕ) → MakesWord w lead len piece y → ⊥) → (b : Bool) → fits x w ≡ b → ⊥
         by_bit x small some begins refused true fit = held_is_not w (drop at all) x made_front some fit begins
         by_bit x small some begins refused false fit = refused x (new_word x small some fit begins)

@@ -1,8 +1,8 @@
 //! What changed in a word, as it is read.
 ghost use Rattle.std.specs.Prelude.{◌≡◌, ℕ, ◌+◌, ◌<◌, ◌≤◌, ◌↔◌, Some, length, drop, IsTrue, IfOk, IfErr, IfSome, IfNone, ◌*◌, ◌^◌};
 ghost use Rattle.gor_model.specs.Codes.{window_for, fits};
-ghost use Rattle.gor_bits.specs.Spelled.{Stands};
-ghost use Rattle.gor_values.specs.Words.{window_shown, IsChanged, IsNoChange, Makes};
+ghost use Rattle.gor_bits.specs.Spelled.{SpellsAt};
+ghost use Rattle.gor_values.specs.Words.{window_shown, IsChanged, IsNoWordChange, MakesWord};
 
 use crate::fault::ValueFault;
 use crate::window::Window;
@@ -18,7 +18,7 @@ pub struct Changed {
 /// The change whose code stands at `at`.
 pub fn read_changed(bits: &Bits, at: usize, window: Option<Window>) -> Result<Changed, ValueFault>
     ensures ok { IfOk result (λ read. IsChanged (window_shown window) (drop at bits.now.bits) read.x read.size) }
-    ensures err { IfErr result (IsNoChange (window_shown window) at (drop at bits.now.bits)) }
+    ensures err { IfErr result (IsNoWordChange (window_shown window) at (drop at bits.now.bits)) }
 {
     let Some(first) = bits.get(at, 1) else {
         return Err(ValueFault::Short { at });
@@ -39,9 +39,9 @@ pub fn read_changed(bits: &Bits, at: usize, window: Option<Window>) -> Result<Ch
 }
 
 fn read_held(bits: &Bits, at: usize, held: Window) -> Result<Changed, ValueFault>
-    requires { Stands bits.now.bits at 2 2 }
+    requires { SpellsAt bits.now.bits at 2 2 }
     ensures ok { IfOk result (λ read. IsChanged (window_shown (Some held)) (drop at bits.now.bits) read.x read.size) }
-    ensures err { IfErr result (IsNoChange (window_shown (Some held)) at (drop at bits.now.bits)) }
+    ensures err { IfErr result (IsNoWordChange (window_shown (Some held)) at (drop at bits.now.bits)) }
 {
     let _len = bits.len();
     let Some(piece) = bits.get(at + 2, held.len) else {
@@ -57,9 +57,9 @@ fn read_held(bits: &Bits, at: usize, held: Window) -> Result<Changed, ValueFault
 }
 
 fn read_made(bits: &Bits, at: usize, window: Option<Window>) -> Result<Changed, ValueFault>
-    requires { Stands bits.now.bits at 2 3 }
+    requires { SpellsAt bits.now.bits at 2 3 }
     ensures ok { IfOk result (λ read. IsChanged (window_shown window) (drop at bits.now.bits) read.x read.size) }
-    ensures err { IfErr result (IsNoChange (window_shown window) at (drop at bits.now.bits)) }
+    ensures err { IfErr result (IsNoWordChange (window_shown window) at (drop at bits.now.bits)) }
 {
     let _len = bits.len();
     let Some(head) = bits.get(at, 13) else {
@@ -85,8 +85,8 @@ fn made_of(window: Option<Window>, lead: u32, len: u32, piece: u64) -> Option<u6
     requires word { len ≤ 64 }
     requires fits { piece < 2 ^ len }
     requires few { lead < 32 }
-    ensures some { IfSome result (Makes (window_shown window) lead len piece) }
-    ensures none { IfNone result ((x : ℕ) → Makes (window_shown window) lead len piece x → ⊥) }
+    ensures some { IfSome result (MakesWord (window_shown window) lead len piece) }
+    ensures none { IfNone result ((x : ℕ) → MakesWord (window_shown window) lead len piece x → ⊥) }
 {
     if lead + len > 64 {
         return None;

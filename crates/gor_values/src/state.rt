@@ -1,8 +1,8 @@
 //! The running state of a block's words.
 ghost use Rattle.std.specs.Prelude.{◌≡◌, ℕ, ◌+◌, ◌-◌, ◌*◌, ◌/◌, ◌^◌, ◌<◌, ◌≤◌, ◌++◌, length, drop, true, false, bit_xor, List, Bool, IfOk, IfErr, IsOkAnd};
 ghost use Rattle.gor_bits.specs.BitString.{BitString};
-ghost use Rattle.gor_model.specs.Codes.{Begins, changed_code, window_after, value_code};
-ghost use Rattle.gor_values.specs.Words.{ValueMark, first_mark, mark_after, mark_of, next_code, window_shown, IsWordAt, IsExactly, FindsWord, with_code, IsValueFault, IsNoChange, IsFirstFault};
+ghost use Rattle.gor_model.specs.Codes.{CodeBegins, changed_code, window_after, value_code};
+ghost use Rattle.gor_values.specs.Words.{ValueMark, first_value_mark, value_mark_after, value_mark_of, next_word_code, window_shown, IsWordAt, IsExactWord, FindsWord, with_code, IsValueFault, IsNoWordChange, IsFirstWordFault};
 
 use crate::change::{is_held, read_changed};
 use crate::fault::ValueFault;
@@ -76,7 +76,7 @@ fn window_behind(window: Option<Window>, x: u64) -> Option<Window>
 impl ValueState {
     /// The state of a block that has no word yet.
     pub fn new() -> ValueState
-        ensures { result ≡ first_mark }
+        ensures { result ≡ first_value_mark }
     {
         ValueState {
             begun: false,
@@ -101,10 +101,10 @@ impl ValueState {
     /// The code is the model's for the words before, and with whatever follows it begins with no other word's code.
     pub fn write(&mut self, bits: &mut Bits, word: u64)
         requires { 77 ≤ bits.old.spare }
-        ensures state { self.new ≡ mark_after self.old word }
-        ensures bits { bits.new ≡ record { bits = bits.old.bits ++ next_code self.old word; spare = bits.old.spare - length (next_code self.old word) } }
-        ensures alone { (other : ℕ) → other < 2 ^ 64 → (after : List Bool) → Begins (next_code self.old other) (next_code self.old word ++ after) → other ≡ word }
-        ensures model { (words : List ℕ) → self.old ≡ mark_of words → next_code self.old word ≡ value_code words word }
+        ensures state { self.new ≡ value_mark_after self.old word }
+        ensures bits { bits.new ≡ record { bits = bits.old.bits ++ next_word_code self.old word; spare = bits.old.spare - length (next_word_code self.old word) } }
+        ensures alone { (other : ℕ) → other < 2 ^ 64 → (after : List Bool) → CodeBegins (next_word_code self.old other) (next_word_code self.old word ++ after) → other ≡ word }
+        ensures model { (words : List ℕ) → self.old ≡ value_mark_of words → next_word_code self.old word ≡ value_code words word }
     {
         if self.begun {
             self.window = write_changed(bits, self.window, word ^ self.last);
@@ -133,7 +133,7 @@ impl ValueState {
     fn read_first(&self, bits: &Bits, at: usize) -> Result<(u64, usize, ValueState), ValueFault>
         requires { self.now.begun ≡ false }
         ensures ok { IfOk result (λ read. IsWordAt self.now (drop at bits.now.bits) at read.0 read.1 read.2) }
-        ensures err { IfErr result (IsFirstFault at (drop at bits.now.bits)) }
+        ensures err { IfErr result (IsFirstWordFault at (drop at bits.now.bits)) }
     {
         let _len = bits.len();
         let Some(word) = bits.get(at, 64) else {
@@ -150,7 +150,7 @@ impl ValueState {
     fn read_behind(&self, bits: &Bits, at: usize) -> Result<(u64, usize, ValueState), ValueFault>
         requires { self.now.begun ≡ true }
         ensures ok { IfOk result (λ read. IsWordAt self.now (drop at bits.now.bits) at read.0 read.1 read.2) }
-        ensures err { IfErr result (IsNoChange self.now.window at (drop at bits.now.bits)) }
+        ensures err { IfErr result (IsNoWordChange self.now.window at (drop at bits.now.bits)) }
     {
         let _len = bits.len();
         let read = read_changed(bits, at, self.window)?;

@@ -1,11 +1,11 @@
 use Rattle.std.proofs.Common.{ℕ, ◌+◌, ◌*◌, ◌≤◌, arith}
 use Rattle.gor_text.specs.Workloads.{phase_lines}
-use Rattle.gor_store.specs.Stores.{HasLeft, lines_of_lanes}
+use Rattle.gor_store.specs.Stores.{PassesHaveLeft, lines_of_lanes}
 use Rattle.gor_store.specs.declared.store.Store.{Store}
 use Rattle.gor_store.proofs.NinePasses.{left_for, closing_left}
 use Rattle.gor_bench.proofs.phases.serve.Goals as goal
 
-fewer_left : {D : Type 0} (store : Store D) (n m : ℕ) → HasLeft n store → m ≤ n → HasLeft m store
+fewer_left : {D : Type 0} (store : Store D) (n m : ℕ) → PassesHaveLeft n store → m ≤ n → PassesHaveLeft m store
 fewer_left store n m left less k p at = let enough = left k p at in omega (arith, less, enough)
 
 pub run_phase-requires-clause-left : goal.run_phase-requires-clause-left

@@ -1,6 +1,6 @@
 use Rattle.std.proofs.Common.{subst}
 use Rattle.gor_hall.specs.declared.pass.Pass.{Pass}
-use Rattle.gor_bench.specs.Turns.{IsIdle}
+use Rattle.gor_bench.specs.Turns.{PassHoldsNothing}
 use denote.Param.Send.{sendable}
 use Rattle.std.proofs.Crossing.{crosses}
 use Rattle.gor_hall.proofs.Sharing.{badge_send}
@@ -12,4 +12,4 @@ for_each_mut-requires-send-T g c κs within = search (sendable, crosses, badge_s
 pub returns-clause-back : goal.returns-clause-back
 returns-clause-back g c i d low =
     let turn = (c.for_each_mut.ensures i d low).1 in
-    subst (λ (pass : Pass). IsIdle c.args.hall.now pass) turn.left turn.call
+    subst (λ (pass : Pass). PassHoldsNothing c.args.hall.now pass) turn.left turn.call

@@ -1,6 +1,6 @@
 use Rattle.std.proofs.Common.{◌≡◌, ℕ, List, ◌+◌, ◌-◌, ◌*◌, ◌%◌, length, take, ap, ◌∙◌, arith, length-take-le}
 use Rattle.std.proofs.lemmas.List.{take-take}
-use Rattle.gor_bits.specs.Spelled.{bits_of, spelled, overwritten}
+use Rattle.gor_bits.specs.Spelled.{bits_of, spelled, bits_overwritten}
 use Rattle.gor_bits.proofs.ByteBits.{bits_of-take}
 use Rattle.gor_bits.proofs.Packed.{packed_cut, packed_whole}
 use Rattle.gor_bits.proofs.bytes.cut.Goals as goal
@@ -13,7 +13,7 @@ returns-then-behind-lt8-clause-packed c =
     let behind = 8 - len % 8 in
     let e : 8 * count ≡ len + behind = omega (arith, c.div_ceil.ensures) in
     packed_cut bytes c.overwrite.new.bytes.items len count behind c.requires.held e (omega arith) (omega (arith, c.requires.held))
-    (c.overwrite.ensures.bits ∙ ap (λ (xs : List ℕ). overwritten (bits_of xs) len (spelled behind 0)) c.truncate.ensures.items)
+    (c.overwrite.ensures.bits ∙ ap (λ (xs : List ℕ). bits_overwritten (bits_of xs) len (spelled behind 0)) c.truncate.ensures.items)
 
 pub returns-else-behind-lt8-clause-packed : goal.returns-else-behind-lt8-clause-packed
 returns-else-behind-lt8-clause-packed c =

@@ -1,5 +1,5 @@
 use Rattle.std.proofs.Common.{◌≡◌, ℕ, List, ◌+◌, ◌-◌, ◌*◌, ◌≤◌, ◌<◌, ◌++◌, length, take, replicate, ap₂, sym, ◌∙◌, arith, refl, length-take-le}
-use Rattle.gor_bits.specs.Spelled.{bits_of, spelled, overwritten}
+use Rattle.gor_bits.specs.Spelled.{bits_of, spelled, bits_overwritten}
 use Rattle.gor_bits.proofs.ByteBits.{length-bits_of}
 use Rattle.gor_bits.proofs.Words.{length-spelled}
 use Rattle.gor_bits.proofs.Packed.{packed_push}
@@ -18,7 +18,7 @@ returns-clause-packed c =
     let bytes_len : c.len.result ≡ length bytes = c.len.ensures ∙ c.args.bytes.now.ok.0 in
     let whole : 8 * c.div_ceil.result < c.args.len + c.args.count + 8 = omega (arith, c.div_ceil.ensures) in
     let enough : c.args.len + c.args.count ≤ 8 * c.div_ceil.result = omega (arith, c.div_ceil.ensures) in
-    let written : bits_of c.overwrite.new.bytes.items ≡ overwritten (bits_of (bytes ++ replicate more 0)) (length bits) piece =
+    let written : bits_of c.overwrite.new.bytes.items ≡ bits_overwritten (bits_of (bytes ++ replicate more 0)) (length bits) piece =
     c.overwrite.ensures.bits
-    ∙ ap₂ (λ (xs : List ℕ) at. overwritten (bits_of xs) at piece) c.push_zeros.ensures.items (sym lb) in
+    ∙ ap₂ (λ (xs : List ℕ) at. bits_overwritten (bits_of xs) at piece) c.push_zeros.ensures.items (sym lb) in
     packed_push bits piece bytes (replicate more 0) c.overwrite.new.bytes.items more c.requires.packed refl (omega arith) (omega arith) written

@@ -1,6 +1,6 @@
 use Rattle.std.proofs.Common.{◌≡◌, List, Bool, ◌+◌, ◌-◌, ◌*◌, ◌%◌, ◌^◌, ap, ap₂, ◌∙◌, arith}
 use Rattle.std.proofs.lemmas.Nat.{shr_below, one_shl}
-use Rattle.gor_bits.specs.Spelled.{bits_of, spelled, overwritten}
+use Rattle.gor_bits.specs.Spelled.{bits_of, spelled, bits_overwritten}
 use Rattle.gor_bits.proofs.ByteBits.{length-bits_of}
 use Rattle.gor_bits.proofs.WordBits.{written_twice}
 use Rattle.gor_bits.proofs.bytes.put_number.Goals as goal
@@ -21,6 +21,6 @@ returns c =
     let whole : room + low ≡ c.args.count = omega arith in
     let second : spelled low (c.args.value % (1 * 2 ^ low % 2 ^ 64)) ≡ spelled low (c.args.value % 2 ^ low) = ap (λ k. spelled low (c.args.value % k)) (one_shl low 64 (omega arith)) in
     c.put_piece-3.ensures
-    ∙ ap₂ (λ (xs ys : List Bool). overwritten xs (c.args.at + room) ys) c.put_piece-2.ensures second
+    ∙ ap₂ (λ (xs ys : List Bool). bits_overwritten xs (c.args.at + room) ys) c.put_piece-2.ensures second
     ∙ written_twice bits c.args.at room low c.args.value (omega (arith, c.requires.within, length-bits_of c.args.bytes.now))
-    ∙ ap (λ k. overwritten bits c.args.at (spelled k c.args.value)) whole
+    ∙ ap (λ k. bits_overwritten bits c.args.at (spelled k c.args.value)) whole

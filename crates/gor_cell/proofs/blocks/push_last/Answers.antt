@@ -2,7 +2,7 @@ use Rattle.std.proofs.lemmas.List.{length-set}
 use Rattle.std.proofs.Common.{sym, ◌∙◌, ◌-◌, ◌≡◌, ◌≤◌, ◌∷◌, [], List, length, subst, arith}
 use Rattle.std.specs.Prelude.{IsSomeAnd, IfSome, slice_set}
 use Rattle.gor_model.specs.PlainMap.{last_of}
-use Rattle.gor_block.specs.PointBlock.{PointBlock, IsBlock, MayFollow, followed, point_room}
+use Rattle.gor_block.specs.PointBlock.{PointBlock, IsBlock, PointMayFollow, followed, point_room}
 use Rattle.gor_model.specs.Windows.{window}
 use Rattle.gor_cell.proofs.Points.{last_at, changed_at}
 use Rattle.gor_cell.proofs.blocks.push_last.Goals as goal
@@ -25,7 +25,7 @@ push_reserved-requires-clause-next c =
     let P = λ (b : PointBlock). (b.window ≡ window c.args.point.time) × (point_room ≤ b.room) in
     let n : c.len-last.result ≡ length xs = omega arith in
     let last = last_at xs c.index_mut.result.now c.len-last.result n (some_of P xs c.requires.open) c.index_mut.ensures.value in
-    subst (λ o. IfSome o (λ (b : PointBlock). MayFollow b c.args.point)) last c.requires.next
+    subst (λ o. IfSome o (λ (b : PointBlock). PointMayFollow b c.args.point)) last c.requires.next
 
 pub returns-clause-later : goal.returns-clause-later
 returns-clause-later c =

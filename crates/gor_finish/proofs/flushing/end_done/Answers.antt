@@ -2,7 +2,7 @@ use Rattle.std.proofs.Common.{ℕ, refl, sym, subst}
 use Rattle.gor_model.specs.Starts.{IsStart}
 use Rattle.gor_hall.specs.Passes.{view}
 use Rattle.gor_hall.specs.Steps.{HasMarked}
-use Rattle.gor_flush.specs.Devices.{shown}
+use Rattle.gor_flush.specs.Devices.{device_shown}
 use Rattle.gor_finish.specs.Flushes.{done_made}
 use Rattle.gor_finish.proofs.FlushSteps.{May, may_done, done_stands}
 use Rattle.gor_finish.proofs.MadeLaws.{one_made}
@@ -10,13 +10,13 @@ use Rattle.gor_finish.proofs.flushing.end_done.Goals as goal
 
 pub mark-number-requires-clause-event : goal.mark-number-requires-clause-event
 mark-number-requires-clause-event g c =
-    let v = view c.args.pass.now in let p = c.requires.pass.0 in let d = shown g.D.Disk.tells g.D.Disk.view g.D.Disk.faults c.args.device in
+    let v = view c.args.pass.now in let p = c.requires.pass.0 in let d = device_shown g.D.Disk.tells g.D.Disk.view g.D.Disk.faults c.args.device in
     let m = subst (λ x. May v (done_made c.lane.result (g.D.Disk.view x).moment c.args.changes)) (sym c.of.ensures) (may_done v (subst IsStart (sym p.start) p.sound) c.requires.legal c.requires.pass.2 c.lane.result d c.args.changes c.requires.written) in
     (c.lane.ensures, c.requires.pass.1, m.0, m.1)
 
 pub give_device-requires-clause-stands : goal.give_device-requires-clause-stands
 give_device-requires-clause-stands g c =
-    let v = view c.args.pass.now in let p = c.requires.pass.0 in let d = shown g.D.Disk.tells g.D.Disk.view g.D.Disk.faults c.args.device in
+    let v = view c.args.pass.now in let p = c.requires.pass.0 in let d = device_shown g.D.Disk.tells g.D.Disk.view g.D.Disk.faults c.args.device in
     done_stands v (subst IsStart (sym p.start) p.sound) c.requires.legal c.requires.pass.2 c.lane.result d c.args.changes c.requires.written (view c.mark-number.new.pass) c.mark-number.result
     (subst (λ x. HasMarked v (done_made c.lane.result (g.D.Disk.view x).moment c.args.changes) c.mark-number.result (view c.mark-number.new.pass)) c.of.ensures c.mark-number.ensures.marked)
 

@@ -1,5 +1,5 @@
 use Rattle.gor_hall.specs.Passes.{view}
-use Rattle.gor_flush.specs.Devices.{shown}
+use Rattle.gor_flush.specs.Devices.{device_shown}
 use Rattle.gor_flush.proofs.Starting.{taken_may_write}
 use Rattle.gor_finish.proofs.flushing.write_out.Goals as goal
 
@@ -11,4 +11,4 @@ end_stop-requires-clause-failed g c =
 pub write_taken-requires-clause-may : goal.write_taken-requires-clause-may
 write_taken-requires-clause-may g c =
     let x = c.requires.waits in
-    taken_may_write (shown g.D.Disk.tells g.D.Disk.view g.D.Disk.faults c.args.device) (view c.args.pass.now).start x.before x.taken
+    taken_may_write (device_shown g.D.Disk.tells g.D.Disk.view g.D.Disk.faults c.args.device) (view c.args.pass.now).start x.before x.taken

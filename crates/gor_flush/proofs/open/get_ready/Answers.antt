@@ -1,6 +1,6 @@
 use Rattle.std.proofs.Common.{subst}
 use Rattle.gor_disk.specs.Disk.{Contents}
-use Rattle.gor_flush.specs.Opening.{IsOpened}
+use Rattle.gor_flush.specs.Opening.{DiskIsOpened}
 use Rattle.gor_flush.specs.Preparing.{device_marks}
 use Rattle.gor_flush.proofs.Opens.{read_holds, then_holds, was_found}
 use Rattle.gor_flush.proofs.Recovers.{found_by}
@@ -31,7 +31,7 @@ returns-clause-held g c = λ t. then_holds c.args.shards c.args.shard (g.D.Disk.
 
 pub returns-clause-opened : goal.returns-clause-opened
 returns-clause-opened g c = λ t.
-    subst (λ (given : Contents). IsOpened c.args.shards c.args.shard given (device_marks c.args.shards c.args.shard c.in_ok-recovered.recovered.marks.items) c.in_ok-recovered.recovered.tops.items (g.D.Disk.view c.prepare.new.disk))
+    subst (λ (given : Contents). DiskIsOpened c.args.shards c.args.shard given (device_marks c.args.shards c.args.shard c.in_ok-recovered.recovered.marks.items) c.in_ok-recovered.recovered.tops.items (g.D.Disk.view c.prepare.new.disk))
     (same_contents _ _ (c.recover.ensures.same t).seen) (c.in_ok-prepared.ensures.opened t)
 
 pub returns-clause-found : goal.returns-clause-found

@@ -1,11 +1,11 @@
 use Rattle.std.proofs.Common.{◌≡◌, ◌-◌, ◌≤◌, length, drop}
 use Rattle.gor_model.specs.Fields.{each_of, with_front}
-use Rattle.gor_keys.specs.Reading.{record_in}
+use Rattle.gor_keys.specs.Reading.{key_record_in}
 use Rattle.gor_keys.proofs.reading.records_of.Given as goal
 
 abbrev pub invariant-loop-at : goal.invariant-loop-at
 invariant-loop-at l = (l.at ≤ length l.body)
-    × (with_front l.records.items (each_of (record_in l.unit l.live) l.at (drop l.at l.body)) ≡ each_of (record_in l.unit l.live) 1 (drop 1 l.body))
+    × (with_front l.records.items (each_of (key_record_in l.unit l.live) l.at (drop l.at l.body)) ≡ each_of (key_record_in l.unit l.live) 1 (drop 1 l.body))
 
 abbrev pub decreases-loop-at : goal.decreases-loop-at
 decreases-loop-at l = length l.body - l.at

@@ -2,7 +2,7 @@ use Rattle.std.proofs.Common.{◌≡◌, ◌+◌, sym, subst, arith}
 use Rattle.std.specs.List.{AllByRecursion}
 use Rattle.gor_model.specs.Fields.{wrong}
 use Rattle.gor_log.specs.declared.record.LogRecord.{LogRecord}
-use Rattle.gor_log.specs.Spelling.{IsRecord}
+use Rattle.gor_log.specs.Spelling.{IsLogRecord}
 use Rattle.gor_log.specs.Reading.{log_in}
 use Rattle.gor_image.specs.Records.{Placed}
 use Rattle.gor_recover.proofs.Near.{log_near}
@@ -20,5 +20,5 @@ returns-in_ok-placed-in-Ok-clause-limits c =
     let is = c.in-Ok.ensures.found.0 in
     record {
       range = is.range;
-      records = subst (AllByRecursion (λ (r : Placed LogRecord). IsRecord r.it)) (sym c.in_ok-placed-in-Ok.ensures) (rw c.deref.ensures.value (records_limited (c.args.at + 17) c.in-Ok.batch.records.items is.records));
+      records = subst (AllByRecursion (λ (r : Placed LogRecord). IsLogRecord r.it)) (sym c.in_ok-placed-in-Ok.ensures) (rw c.deref.ensures.value (records_limited (c.args.at + 17) c.in-Ok.batch.records.items is.records));
     }

@@ -1,6 +1,6 @@
 use Rattle.std.proofs.Common.{◌≡◌, ℕ, ◌+◌, ◌^◌, Ok, ◌∷◌, ◌++◌, List, [], map, drop, sym, ◌∙◌, ap, subst, arith}
 use Rattle.std.proofs.lemmas.List.{append-nil, drop_more}
-use Rattle.gor_image.specs.Records.{Batch}
+use Rattle.gor_image.specs.Records.{BatchInLog}
 use Rattle.gor_image.specs.Holding.{BatchesRise}
 use Rattle.gor_gate.specs.Bodies.{listed}
 use Rattle.gor_gate.specs.declared.bodies.Body.{Body}
@@ -30,7 +30,7 @@ loop-body-preserved c =
       so_far = λ batches is. so_far batches is;
     }
   where
-    so_far : (batches : List Batch) → last_number batches ≡ c.args.before
+    so_far : (batches : List BatchInLog) → last_number batches ≡ c.args.before
         → read_bodies (read_batch c.args.log) (batches ++ map batch_shown c.push.new.self.items) (listed (drop (c.loop-body.body-index + 1) c.args.bodies.now)) ≡ read_bodies (read_batch c.args.log) batches (listed c.args.bodies.now)
     so_far batches is =
         let part = c.in_ok-part.part in
@@ -43,7 +43,7 @@ loop-body-preserved c =
         let read : read_batch c.args.log front (c.body-item.result.at + 9) c.body-item.result.bytes.items ≡ Ok (front ++ batch_shown part ∷ []) =
         subst (λ (bytes : List ℕ). read_batch c.args.log front (c.body-item.result.at + 9) bytes ≡ Ok (front ++ batch_shown part ∷ [])) c.deref.ensures.value (c.in_ok-part.ensures.read front (c.loop-body.invariant.last batches is)) in
         let on = read_more (read_batch c.args.log) front (front ++ batch_shown part ∷ []) (drop i bodies) (drop (i + 1) bodies) c.body-item.result (read_bodies (read_batch c.args.log) batches (listed bodies)) split read (c.loop-body.invariant.so_far batches is) in
-        subst (λ (l : List Batch). read_bodies (read_batch c.args.log) l (listed (drop (i + 1) bodies)) ≡ read_bodies (read_batch c.args.log) batches (listed bodies)) (sym (behind_more parts c.push.new.self.items part more batches)) on
+        subst (λ (l : List BatchInLog). read_bodies (read_batch c.args.log) l (listed (drop (i + 1) bodies)) ≡ read_bodies (read_batch c.args.log) batches (listed bodies)) (sym (behind_more parts c.push.new.self.items part more batches)) on
 
 pub returns-clause-rise : goal.returns-clause-rise
 returns-clause-rise c = subst (BatchesRise c.args.before) (append-nil (map batch_shown c.loop-body.parts.items)) (c.loop-body.invariant.rise [] tt)

@@ -3,7 +3,7 @@ use Rattle.gor_recover.specs.Parts.{key_shown}
 use Rattle.std.specs.List.{AllByRecursion}
 use Rattle.gor_image.specs.Images.{read_blocks}
 use Rattle.gor_recover.specs.Openings.{IsMet}
-use Rattle.gor_recover.specs.Gathering.{HasSeries}
+use Rattle.gor_recover.specs.Gathering.{SeriesIsThere}
 use Rattle.gor_recover.specs.StoreReads.{HasBlocks, live_from}
 use Rattle.gor_recover.proofs.GatheredOn.{blocks_stop, logs_stop, store_is}
 use Rattle.gor_recover.proofs.OnlyReads.{read_both}
@@ -34,7 +34,7 @@ returns-clause-ok g c = λ based.
     (λ t. (c.read_key_list.ensures.same t).seen)
     (λ t. (read_both (g.D.Disk.view c.args.disk.now) (g.D.Disk.view c.read_key_list.new.disk) (g.D.Disk.view c.add_block_files.new.disk) (c.read_key_list.ensures.same t) (c.add_block_files.ensures.same t)).seen)
     c.in-Ok.keys.items c.in-Ok.ensures.ok c.in-Ok.ensures.limits c.in-Ok.ensures.rise c.in-Ok-begun.series c.add_block_files.new.series c.add_logs.new.series c.in-Ok-begun.ensures.begun
-    (subst (λ l. AllByRecursion (λ k. HasSeries c.in-Ok-begun.series k.it) l) c.deref.ensures.value c.in-Ok-begun.ensures.has)
+    (subst (λ l. AllByRecursion (λ k. SeriesIsThere c.in-Ok-begun.series k.it) l) c.deref.ensures.value c.in-Ok-begun.ensures.has)
     (subst (λ l. HasBlocks g.D.Disk.tells (g.D.Disk.view c.read_key_list.new.disk).seen l c.in-Ok-begun.series c.add_block_files.new.series)
     (c.deref-2.ensures.value ∙ (c.in-Ok-live_windows.ensures ∙ ap (λ n. live_from n c.args.marks.now) c.unwrap_or.ensures)) c.in_default-add_block_files.ensures.ok)
     c.no_logs-logs.result.floor c.no_logs-logs.ensures.floor

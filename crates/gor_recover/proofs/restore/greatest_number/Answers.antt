@@ -2,7 +2,7 @@ use Rattle.std.proofs.Common.{◌+◌, ◌<◌, ◌^◌, map, drop, max, sym, ap
 use Rattle.std.specs.Prelude.{filter_map}
 use Rattle.gor_model.specs.PlainMap.{greatest}
 use Rattle.gor_model.proofs.Lists.{drop_item}
-use Rattle.gor_image.specs.Recovery.{number_in}
+use Rattle.gor_image.specs.Recovery.{change_number_in}
 use Rattle.gor_recover.specs.Parts.{key_shown}
 use Rattle.gor_recover.specs.KeyReads.{AreKeysAt}
 use Rattle.gor_recover.proofs.Heights.{greatest_next}
@@ -17,7 +17,7 @@ loop-key-preserved c =
     record {
       keys = here.1;
       below = subst (λ n. n < 2 ^ 63) (sym e) (let a = c.loop-key.invariant.below in let b = number_low c.key-item.result.it here.0.limits in omega arith);
-      left = ap (λ n. greatest n (filter_map (λ r. number_in r.it) (map key_shown (drop (c.loop-key.key-index + 1) c.args.keys.now)))) e
-          ∙ (greatest_next c.loop-key.greatest (number_in c.key-item.result.it) (filter_map (λ r. number_in r.it) (map key_shown (drop (c.loop-key.key-index + 1) c.args.keys.now)))
-          ∙ (ap (λ l. greatest c.loop-key.greatest (filter_map (λ r. number_in r.it) (map key_shown l))) (sym item) ∙ c.loop-key.invariant.left));
+      left = ap (λ n. greatest n (filter_map (λ r. change_number_in r.it) (map key_shown (drop (c.loop-key.key-index + 1) c.args.keys.now)))) e
+          ∙ (greatest_next c.loop-key.greatest (change_number_in c.key-item.result.it) (filter_map (λ r. change_number_in r.it) (map key_shown (drop (c.loop-key.key-index + 1) c.args.keys.now)))
+          ∙ (ap (λ l. greatest c.loop-key.greatest (filter_map (λ r. change_number_in r.it) (map key_shown l))) (sym item) ∙ c.loop-key.invariant.left));
     }

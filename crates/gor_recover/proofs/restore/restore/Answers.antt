@@ -7,7 +7,7 @@ use Rattle.gor_recover.specs.Parts.{key_shown}
 use Rattle.gor_recover.specs.Ranges.{RangesRise}
 use Rattle.gor_recover.specs.NamesRead.{AreNamed, names_from}
 use Rattle.gor_model.specs.PlainMap.{greatest}
-use Rattle.gor_image.specs.Recovery.{no_names, recovered, number_in}
+use Rattle.gor_image.specs.Recovery.{no_names, recovered, change_number_in}
 use Rattle.gor_image.specs.Images.{names_in}
 use Rattle.gor_recover.specs.Openings.{IsMet}
 use Rattle.gor_recover.proofs.Covers.{ranges_rise}
@@ -53,7 +53,7 @@ returns-in-Err-check-clause-err c = λ files is.
     check_stop files c.args.upto c.args.store is c.args.list c.args.slots c.in-Ok.names.items named c.in-Ok-rows.rows.items filled c.in-Err-check.fault
     (c.in-Err-check.ensures.err (recovered files named.names)
     (needed_is files c.args.upto c.args.store is c.args.list c.args.slots c.in-Ok.names.items named c.in-Ok-rows.rows.items filled c.needed.result (c.needed.ensures ∙ ap (λ l. greatest 0 (map (λ r. r.slot + 1) l)) c.deref-3.ensures.value))
-    (sym (next_is files c.args.upto c.args.store is c.greatest_number-next.result (c.greatest_number-next.ensures.greatest ∙ (ap (λ n. greatest n (filter_map (λ r. number_in r.it) (map key_shown c.deref.result.now))) c.max.ensures ∙ ap (λ l. greatest (max c.args.upto c.args.store.logs.last) (filter_map (λ r. number_in r.it) (map key_shown l))) c.deref.ensures.value)))))
+    (sym (next_is files c.args.upto c.args.store is c.greatest_number-next.result (c.greatest_number-next.ensures.greatest ∙ (ap (λ n. greatest n (filter_map (λ r. change_number_in r.it) (map key_shown c.deref.result.now))) c.max.ensures ∙ ap (λ l. greatest (max c.args.upto c.args.store.logs.last) (filter_map (λ r. change_number_in r.it) (map key_shown l))) c.deref.ensures.value)))))
 
 pub returns-clause-ok : goal.returns-clause-ok
 returns-clause-ok c = λ files is.
@@ -61,5 +61,5 @@ returns-clause-ok c = λ files is.
     let filled = c.in-Ok-rows.ensures.ok files is.gathered in
     restored files c.args.upto c.args.store is c.args.list c.args.slots c.in-Ok.names.items named c.in-Ok-rows.rows.items filled _
     c.needed.result (c.greatest_number-next.result + 1) (c.needed.ensures ∙ ap (λ l. greatest 0 (map (λ r. r.slot + 1) l)) c.deref-3.ensures.value)
-    (next_is files c.args.upto c.args.store is c.greatest_number-next.result (c.greatest_number-next.ensures.greatest ∙ (ap (λ n. greatest n (filter_map (λ r. number_in r.it) (map key_shown c.deref.result.now))) c.max.ensures ∙ ap (λ l. greatest (max c.args.upto c.args.store.logs.last) (filter_map (λ r. number_in r.it) (map key_shown l))) c.deref.ensures.value)))
+    (next_is files c.args.upto c.args.store is c.greatest_number-next.result (c.greatest_number-next.ensures.greatest ∙ (ap (λ n. greatest n (filter_map (λ r. change_number_in r.it) (map key_shown c.deref.result.now))) c.max.ensures ∙ ap (λ l. greatest (max c.args.upto c.args.store.logs.last) (filter_map (λ r. change_number_in r.it) (map key_shown l))) c.deref.ensures.value)))
     c.in_default.ensures.ok.0 c.in_default.ensures.ok.1 refl refl refl refl c.args.marks.items refl refl

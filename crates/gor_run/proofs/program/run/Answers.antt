@@ -4,7 +4,7 @@ use Rattle.gor_text.specs.Workloads.{phase_lines, lines_in}
 use Rattle.gor_run.specs.Runs.{run_of}
 use Rattle.gor_run.specs.Statuses.{IsReadFault, CallsNoDisk}
 use Rattle.gor_run.specs.TakenLines.{AreTakenPhases, lines_of_phases}
-use Rattle.gor_run.specs.Words.{words_of}
+use Rattle.gor_run.specs.Words.{words_of_strings}
 use Rattle.gor_run.specs.declared.status.Status.{Status}
 use Rattle.gor_run.specs.declared.status.Status.TheVariants as status
 use Rattle.gor_run.proofs.Taken.{text_taken, text_few}
@@ -32,10 +32,10 @@ unread : (g : Over) (c : goal.In-Err g) (t : Status) → (IsReadFault (g.S.Sourc
 unread g c t never = no_fault (g.S.Source.left c.args.source.now) (g.S.Source.left c.read_workload.new.source) (g.S.Source.faults c.args.source.now) (g.S.Source.faults c.read_workload.new.source) c.in-Err.status t never c.in-Err.ensures.fault
 
 pub overflow_cast-slots : goal.overflow_cast-slots
-overflow_cast-slots g c = let low = run_within (words_of c.args.words.now) c.in-Some.slots (sym c.in-Some.ensures) in omega (arith, low)
+overflow_cast-slots g c = let low = run_within (words_of_strings c.args.words.now) c.in-Some.slots (sym c.in-Some.ensures) in omega (arith, low)
 
 pub open-requires-clause-slots : goal.open-requires-clause-slots
-open-requires-clause-slots g c = let low = run_within (words_of c.args.words.now) c.in-Some.slots (sym c.in-Some.ensures) in omega (arith, low)
+open-requires-clause-slots g c = let low = run_within (words_of_strings c.args.words.now) c.in-Some.slots (sym c.in-Some.ensures) in omega (arith, low)
 
 pub serve-requires-clause-fresh : goal.serve-requires-clause-fresh
 serve-requires-clause-fresh g c κs within = c.in-Ok-open.ensures.fresh.0

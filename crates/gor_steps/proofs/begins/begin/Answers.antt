@@ -4,7 +4,7 @@ use Rattle.gor_model.specs.Answers.{makes_due}
 use Rattle.gor_model.specs.AnswersByShares.{due_by, weight_by}
 use Rattle.gor_model.specs.Names.{key_of}
 use Rattle.gor_model.specs.Shares.{DirectoryShare, journal_share}
-use Rattle.gor_dir.specs.Listings.{shown}
+use Rattle.gor_dir.specs.Listings.{directory_shown}
 use Rattle.gor_hall.specs.Passes.{view}
 use Rattle.gor_steps.specs.declared.puts.PutAnswer.TheVariants as answer
 use Rattle.gor_steps.proofs.Bounds.{journal_low}
@@ -16,7 +16,7 @@ pub is_due-due-requires : goal.is_due-due-requires
 is_due-due-requires g c = let low = (journal_low (view c.args.pass.now) c.requires.sound c.args.all.journal c.requires.stands.journal).1 in let is = c.buffered.ensures in omega arith
 
 pub begin_in-requires-clause-absent : goal.begin_in-requires-clause-absent
-begin_in-requires-clause-absent g c = entry_none ((shown c.args.all.directory).entry (key_of c.args.point.now.name.now)) c.requires.absent
+begin_in-requires-clause-absent g c = entry_none ((directory_shown c.args.all.directory).entry (key_of c.args.point.now.name.now)) c.requires.absent
 
 pub begin_in-requires-clause-vacant : goal.begin_in-requires-clause-vacant
 begin_in-requires-clause-vacant g c =

@@ -1,7 +1,7 @@
 use Rattle.std.proofs.Common.{◌≡◌, Some, refl, subst}
 use Rattle.std.proofs.lemmas.Bool.{le-ltb}
-use Rattle.gor_cell.specs.Stands.{Stands}
-use Rattle.gor_cell.specs.Steps.{begun_empty, put_answer, with_put}
+use Rattle.gor_cell.specs.Stands.{CellStands}
+use Rattle.gor_cell.specs.Steps.{begun_empty, put_answer, share_with_put}
 use Rattle.gor_cell.specs.declared.cell_put.CellPut.{CellPut}
 use Rattle.gor_cell.specs.declared.cell_put.CellPut.TheVariants.{Stored}
 use Rattle.gor_steps.proofs.ViewLaws.{some_share}
@@ -18,4 +18,4 @@ returns-clause-ok c = λ slot.
     let share = begun_empty c.args.name slot c.args.uid c.args.floor in
     let stands = c.reserve_put.ensures.share (Some share) (c.occupy.ensures slot) in
     let open_is : put_answer share c.args.point.now.time ≡ Stored = rw (le-ltb c.args.point.now.time c.args.floor c.requires.open) refl in
-    subst (λ (a : CellPut). Stands c.put_reserved-stored.new.self.live (Some (with_put (record { time = c.args.point.now.time; word = c.args.point.now.word }) a share))) open_is (c.put_reserved-stored.ensures.share share stands)
+    subst (λ (a : CellPut). CellStands c.put_reserved-stored.new.self.live (Some (share_with_put (record { time = c.args.point.now.time; word = c.args.point.now.word }) a share))) open_is (c.put_reserved-stored.ensures.share share stands)

@@ -4,12 +4,12 @@ use Rattle.gor_model.specs.Fields.{IsNumber}
 use Rattle.gor_model.specs.Names.{key_of}
 use Rattle.gor_model.specs.Objects.{share_of}
 use Rattle.gor_model.specs.Shares.{SeriesShare, journal_share}
-use Rattle.gor_cell.specs.Stands as cells
+use Rattle.gor_cell.specs.Stands.{CellStands}
 use Rattle.gor_rule.specs.declared.view.View.{View}
 use Rattle.gor_hall.specs.Halls.{start_of}
 use Rattle.gor_hall.specs.Passes.{view}
 use Rattle.gor_journal.specs.Bodies.{Pending}
-use Rattle.gor_journal.specs.Stands as journals
+use Rattle.gor_journal.specs.Stands.{PendingStands}
 use Rattle.gor_steps.specs.Puts.{put_event}
 use Rattle.gor_steps.specs.Views.{HasEvent}
 use Rattle.gor_steps.proofs.Bounds.{journal_low}
@@ -31,9 +31,9 @@ give_both-requires-clause-stands g c =
     let r = series_there v c.args.slot c.args.both.cell key s.series c.requires.holds in
     let share : SeriesShare = record { key = key; row = r.0 } in
     let room = c.reserve_in.ensures in
-    let stands : cells.Stands c.reserve_in.new.both.cell.live (Some share) = room.cell (Some share) r.2 in
-    let logged : journals.Stands c.reserve_in.new.both.journal.pending (journal_share v.start v.at) = subst (λ (p : Pending). journals.Stands p (journal_share v.start v.at)) (sym room.journal) s.journal in
-    record { low = low; held_series = s.held_series; held_journal = s.held_journal; series = subst (cells.Stands c.reserve_in.new.both.cell.live) (sym r.1) stands; journal = logged }
+    let stands : CellStands c.reserve_in.new.both.cell.live (Some share) = room.cell (Some share) r.2 in
+    let logged : PendingStands c.reserve_in.new.both.journal.pending (journal_share v.start v.at) = subst (λ (p : Pending). PendingStands p (journal_share v.start v.at)) (sym room.journal) s.journal in
+    record { low = low; held_series = s.held_series; held_journal = s.held_journal; series = subst (CellStands c.reserve_in.new.both.cell.live) (sym r.1) stands; journal = logged }
 
 pub put_in-both-requires-clause-live : goal.put_in-both-requires-clause-live
 put_in-both-requires-clause-live g c =
@@ -44,8 +44,8 @@ put_in-both-requires-clause-live g c =
     let r = series_there v c.args.slot c.args.both.cell key s.series c.requires.holds in
     let share : SeriesShare = record { key = key; row = r.0 } in
     let room = c.reserve_in.ensures in
-    let stands : cells.Stands c.reserve_in.new.both.cell.live (Some share) = room.cell (Some share) r.2 in
-    let logged : journals.Stands c.reserve_in.new.both.journal.pending (journal_share v.start v.at) = subst (λ (p : Pending). journals.Stands p (journal_share v.start v.at)) (sym room.journal) s.journal in
+    let stands : CellStands c.reserve_in.new.both.cell.live (Some share) = room.cell (Some share) r.2 in
+    let logged : PendingStands c.reserve_in.new.both.journal.pending (journal_share v.start v.at) = subst (λ (p : Pending). PendingStands p (journal_share v.start v.at)) (sym room.journal) s.journal in
     uid_of IsNumber c.reserve_in.new.both.cell.live share stands (slot_number v c.requires.sound c.args.slot key r.0 r.1)
 
 pub put_in-both-requires-clause-numbers : goal.put_in-both-requires-clause-numbers
@@ -57,8 +57,8 @@ put_in-both-requires-clause-numbers g c =
     let r = series_there v c.args.slot c.args.both.cell key s.series c.requires.holds in
     let share : SeriesShare = record { key = key; row = r.0 } in
     let room = c.reserve_in.ensures in
-    let stands : cells.Stands c.reserve_in.new.both.cell.live (Some share) = room.cell (Some share) r.2 in
-    let logged : journals.Stands c.reserve_in.new.both.journal.pending (journal_share v.start v.at) = subst (λ (p : Pending). journals.Stands p (journal_share v.start v.at)) (sym room.journal) s.journal in
+    let stands : CellStands c.reserve_in.new.both.cell.live (Some share) = room.cell (Some share) r.2 in
+    let logged : PendingStands c.reserve_in.new.both.journal.pending (journal_share v.start v.at) = subst (λ (p : Pending). PendingStands p (journal_share v.start v.at)) (sym room.journal) s.journal in
     journal_low v c.requires.sound c.reserve_in.new.both.journal logged
 
 pub mark-number-requires-clause-event : goal.mark-number-requires-clause-event
@@ -70,8 +70,8 @@ mark-number-requires-clause-event g c =
     let r = series_there v c.args.slot c.args.both.cell key s.series c.requires.holds in
     let share : SeriesShare = record { key = key; row = r.0 } in
     let room = c.reserve_in.ensures in
-    let stands : cells.Stands c.reserve_in.new.both.cell.live (Some share) = room.cell (Some share) r.2 in
-    let logged : journals.Stands c.reserve_in.new.both.journal.pending (journal_share v.start v.at) = subst (λ (p : Pending). journals.Stands p (journal_share v.start v.at)) (sym room.journal) s.journal in
+    let stands : CellStands c.reserve_in.new.both.cell.live (Some share) = room.cell (Some share) r.2 in
+    let logged : PendingStands c.reserve_in.new.both.journal.pending (journal_share v.start v.at) = subst (λ (p : Pending). PendingStands p (journal_share v.start v.at)) (sym room.journal) s.journal in
     let puts = c.put_in-both.ensures in
     let told = puts.told share (journal_share v.start v.at) stands logged in
     let m = put_may v c.requires.sound c.lane.result c.args.slot c.args.point.now r.0 low c.requires.point r.1 c.put_in-both.result.1 told s.held_series s.held_journal in
@@ -86,8 +86,8 @@ give_both-requires-2-clause-stands g c =
     let r = series_there v c.args.slot c.args.both.cell key s.series c.requires.holds in
     let share : SeriesShare = record { key = key; row = r.0 } in
     let room = c.reserve_in.ensures in
-    let stands : cells.Stands c.reserve_in.new.both.cell.live (Some share) = room.cell (Some share) r.2 in
-    let logged : journals.Stands c.reserve_in.new.both.journal.pending (journal_share v.start v.at) = subst (λ (p : Pending). journals.Stands p (journal_share v.start v.at)) (sym room.journal) s.journal in
+    let stands : CellStands c.reserve_in.new.both.cell.live (Some share) = room.cell (Some share) r.2 in
+    let logged : PendingStands c.reserve_in.new.both.journal.pending (journal_share v.start v.at) = subst (λ (p : Pending). PendingStands p (journal_share v.start v.at)) (sym room.journal) s.journal in
     let puts = c.put_in-both.ensures in
     let told = puts.told share (journal_share v.start v.at) stands logged in
     put_both v c.requires.sound c.lane.result c.args.slot c.args.point.now r.0 low c.requires.point r.1 (view c.mark-number.new.pass) c.mark-number.result c.put_in-both.result.1 c.reserve_in.new.both c.put_in-both.result.0
@@ -111,8 +111,8 @@ returns-clause-index g c =
     let r = series_there v c.args.slot c.args.both.cell key s.series c.requires.holds in
     let share : SeriesShare = record { key = key; row = r.0 } in
     let room = c.reserve_in.ensures in
-    let stands : cells.Stands c.reserve_in.new.both.cell.live (Some share) = room.cell (Some share) r.2 in
-    let logged : journals.Stands c.reserve_in.new.both.journal.pending (journal_share v.start v.at) = subst (λ (p : Pending). journals.Stands p (journal_share v.start v.at)) (sym room.journal) s.journal in
+    let stands : CellStands c.reserve_in.new.both.cell.live (Some share) = room.cell (Some share) r.2 in
+    let logged : PendingStands c.reserve_in.new.both.journal.pending (journal_share v.start v.at) = subst (λ (p : Pending). PendingStands p (journal_share v.start v.at)) (sym room.journal) s.journal in
     let puts = c.put_in-both.ensures in
     let told = puts.told share (journal_share v.start v.at) stands logged in
     let w = view c.mark-number.new.pass in

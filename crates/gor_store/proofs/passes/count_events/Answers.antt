@@ -1,5 +1,5 @@
 use Rattle.std.proofs.Common.{length, arith}
-use Rattle.gor_store.specs.Phases.{passes_of}
+use Rattle.gor_store.specs.Phases.{passes_of_lanes}
 use Rattle.gor_store.specs.Stores.{HasCount}
 use Rattle.gor_store.proofs.NinePasses.{pass_at, closing_at, made_more}
 use Rattle.gor_store.proofs.passes.count_events.Goals as goal
@@ -25,10 +25,10 @@ loop-lane-preserved c =
     }
 
 pub events_by-requires : goal.events_by-requires
-events_by-requires c = c.requires.each (length (passes_of c.args.lanes.now)) c.args.closing.now (closing_at c.args.lanes.now c.args.closing.now)
+events_by-requires c = c.requires.each (length (passes_of_lanes c.args.lanes.now)) c.args.closing.now (closing_at c.args.lanes.now c.args.closing.now)
 
 pub overflow_add-result : goal.overflow_add-result
 overflow_add-result c =
-    let count : HasCount c.args.closing.now = c.requires.each (length (passes_of c.args.lanes.now)) c.args.closing.now (closing_at c.args.lanes.now c.args.closing.now) in
+    let count : HasCount c.args.closing.now = c.requires.each (length (passes_of_lanes c.args.lanes.now)) c.args.closing.now (closing_at c.args.lanes.now c.args.closing.now) in
     let few = c.loop-lane.invariant.few in let low = c.loop-lane.auto.lane-index-end in let long = c.requires.few in let is = c.events_by.ensures in
     omega (arith, few, low, long, is, count)

@@ -3,7 +3,7 @@ use Rattle.gor_model.specs.Objects.{objects}
 use Rattle.gor_model.specs.Starts.{IsStart}
 use Rattle.gor_model.specs.declared.start.Start.{Start}
 use Rattle.gor_hall.specs.Openings.{AllStand}
-use Rattle.gor_flush.specs.Devices.{shown}
+use Rattle.gor_flush.specs.Devices.{device_shown}
 use Rattle.gor_flush.specs.Parts.{part_stands}
 use Rattle.gor_flush.specs.declared.part.Part.{Part}
 use Rattle.gor_flush.specs.FitTest.{is_fit}
@@ -13,7 +13,7 @@ use Rattle.gor_store.proofs.shards.open_hall.Goals as goal
 
 pub open-requires-clause-start : goal.open-requires-clause-start
 open-requires-clause-start g c =
-    let first = shown g.D.Disk.tells g.D.Disk.view g.D.Disk.faults c.args.device in
+    let first = device_shown g.D.Disk.tells g.D.Disk.view g.D.Disk.faults c.args.device in
     let same = start_same g.D.Disk.tells g.D.Disk.view g.D.Disk.faults c.of-start.result.slots c.args.slots c.of-start.result.found.value c.args.recovered c.of-start.result.device.value c.args.device
     c.of-start.ensures.slots c.of-start.ensures.found c.of-start.ensures.device in
     subst IsStart (sym same) (is_start c.args.slots c.args.recovered first.shards first.shard first.opened first.begun (is_fit first.shards first.shard first.given) c.requires.start)

@@ -1,10 +1,10 @@
 use Rattle.std.proofs.Common.{◌≡◌, ℕ, ◌/◌, ◌<◌, List, [], ◌∷◌, drop, take, Bool, true, refl, ap, ◌∙◌, arith, length-drop}
-use Rattle.gor_bits.specs.Spelled.{spelled, Stands}
+use Rattle.gor_bits.specs.Spelled.{spelled, SpellsAt}
 use Rattle.gor_times.proofs.Readings.{same_change, short_rest, stands_one_more}
 use Rattle.gor_times.proofs.change.read_change.Goals as goal
 
 -- a first bit that is not 0
-one_first : (all : List Bool) (at first : ℕ) → Stands all at 1 first → (first ≡ 0 → ⊥) → take 1 (drop at all) ≡ true ∷ []
+one_first : (all : List Bool) (at first : ℕ) → SpellsAt all at 1 first → (first ≡ 0 → ⊥) → take 1 (drop at all) ≡ true ∷ []
 unfolding spelled
 one_first all at first s other =
     let fits : first < 2 = s.fits in

@@ -1,12 +1,12 @@
 use Rattle.std.proofs.Common.{◌≡◌, ℕ, ◌/◌, ◌^◌, ◌<◌, List, [], ◌∷◌, drop, take, Bool, true, refl, ap, ◌∙◌, arith, length-drop}
 use Rattle.std.specs.Prelude.{Option, None}
-use Rattle.gor_bits.specs.Spelled.{spelled, Stands}
+use Rattle.gor_bits.specs.Spelled.{spelled, SpellsAt}
 use Rattle.gor_model.specs.Codes.{ValueWindow}
 use Rattle.gor_values.specs.Words.{window_shown, IsWrong}
 use Rattle.gor_values.proofs.Readings.{zero_changed, short_front, no_window, stands_more}
 use Rattle.gor_values.proofs.change.read_changed.Goals as goal
 
-one_first : (all : List Bool) (at first : ℕ) → Stands all at 1 first → (first ≡ 0 → ⊥) → take 1 (drop at all) ≡ true ∷ []
+one_first : (all : List Bool) (at first : ℕ) → SpellsAt all at 1 first → (first ≡ 0 → ⊥) → take 1 (drop at all) ≡ true ∷ []
 unfolding spelled
 one_first all at first s other =
     let fits : first < 2 = s.fits in

@@ -1,5 +1,5 @@
 use Rattle.std.proofs.Common.{List, Bool, ℕ, ◌≡◌, ◌+◌, ◌≤◌, length, take, ap, ◌∙◌, arith, length-take-le}
-use Rattle.gor_bits.specs.Spelled.{bits_of, spelled, overwritten}
+use Rattle.gor_bits.specs.Spelled.{bits_of, spelled, bits_overwritten}
 use Rattle.gor_bits.specs.BitString.{BitString}
 use Rattle.gor_bits.proofs.ByteBits.{length-bits_of}
 use Rattle.gor_bits.proofs.Words.{length-spelled}
@@ -31,4 +31,4 @@ returns c =
     let within : c.args.at + length piece ≤ length bits = omega (arith, c.requires.within) in
     let p = packed_overwritten bits piece q.bytes.items c.overwrite.new.bytes.items c.args.at i.packed within c.overwrite.ensures.bits in
     ap {B = BitString} (λ (xs : List Bool). record { bits = xs; spare = q.spare }) (packed_front _ _ q.len p (length-overwritten bits piece c.args.at within ∙ lb))
-    ∙ ap {B = BitString} (λ (b : BitString). record { bits = overwritten b.bits c.args.at piece; spare = b.spare }) c.self.view_is
+    ∙ ap {B = BitString} (λ (b : BitString). record { bits = bits_overwritten b.bits c.args.at piece; spare = b.spare }) c.self.view_is

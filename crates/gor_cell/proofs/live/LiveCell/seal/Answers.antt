@@ -3,10 +3,10 @@ use Rattle.std.specs.Prelude.{take, max, length}
 use Rattle.gor_block.specs.PointBlock.{PointBlock}
 use Rattle.gor_model.specs.Windows.{window_end}
 use Rattle.gor_ring.specs.Places.{Places, advanced}
-use Rattle.gor_cell.specs.Packed.{Packed, IsPacked, points_of, blocks_of}
-use Rattle.gor_cell.specs.Stands.{StandsFor}
+use Rattle.gor_cell.specs.Packed.{Packed, IsPackedCell, packed_points, blocks_of}
+use Rattle.gor_cell.specs.Stands.{PackedStands}
 use Rattle.gor_cell.specs.Steps.{after_seal, ArePieces}
-use Rattle.gor_cell.specs.Blocks.{leading, with_blocks, AddsCopies, chosen, bare}
+use Rattle.gor_cell.specs.Blocks.{leading, with_blocks, AddsCopies, chosen, bare_block}
 use Rattle.gor_cell.proofs.Seals.{sealed_cell, MaySeal, sealed_packed, seal_stands, sealed_pieces}
 use Rattle.gor_cell.proofs.live.LiveCell.seal.Goals as goal
 
@@ -17,7 +17,7 @@ invariant_of-self c =
     let old : Packed = record { name = i.name; uid = i.uid; floor = i.floor; later = i.later.items; sealed = i.sealed } in
     let same : old ≡ record { name = i.name; uid = i.uid; floor = i.floor; later = i.later.items; sealed = c.take.new.self } =
     λ k. record { name = i.name; uid = i.uid; floor = i.floor; later = i.later.items; sealed = sym c.in_err-ring.ensures.err k } in
-    subst IsPacked same c.self.invariant
+    subst IsPackedCell same c.self.invariant
 
 pub invariant_of-self-2 : goal.invariant_of-self-2
 invariant_of-self-2 c =
@@ -31,7 +31,7 @@ invariant_of-self-2 c =
     let later : (sealed_cell s c.args.window).later ≡ c.take_in.new.later.items = sym c.take_in.ensures.later in
     let same : sealed_cell s c.args.window ≡ record { name = s.name; uid = s.uid; floor = c.end_of-self-inside.result; later = c.take_in.new.later.items; sealed = c.take_in.result } =
     λ k. record { name = s.name; uid = s.uid; floor = floor k; later = later k; sealed = sealed k } in
-    subst IsPacked same (sealed_packed s c.args.window may)
+    subst IsPackedCell same (sealed_packed s c.args.window may)
 
 pub returns-clause-share : goal.returns-clause-share
 returns-clause-share c share st =
@@ -45,7 +45,7 @@ returns-clause-share c share st =
     let later : (sealed_cell s c.args.window).later ≡ c.take_in.new.later.items = sym c.take_in.ensures.later in
     let same : sealed_cell s c.args.window ≡ record { name = s.name; uid = s.uid; floor = c.end_of-self-inside.result; later = c.take_in.new.later.items; sealed = c.take_in.result } =
     λ k. record { name = s.name; uid = s.uid; floor = floor k; later = later k; sealed = sealed k } in
-    subst (λ (v : Packed). StandsFor v (after_seal c.args.window share)) same (seal_stands s c.args.window may share (subst (λ (v : Packed). StandsFor v share) (sym c.self.view_is) st))
+    subst (λ (v : Packed). PackedStands v (after_seal c.args.window share)) same (seal_stands s c.args.window may share (subst (λ (v : Packed). PackedStands v share) (sym c.self.view_is) st))
 
 pub returns-clause-blocks : goal.returns-clause-blocks
 returns-clause-blocks c =
@@ -62,5 +62,5 @@ returns-clause-blocks c =
     let from : c.from.result ≡ max c.args.first (c.args.window - 11) = omega arith in
     let to : c.from-2.result ≡ c.args.window = omega arith in
     let copies : AddsCopies (chosen (max c.args.first (c.args.window - 11)) c.args.window (blocks_of s)) [] c.in_ok-blocks.blocks.items =
-    c.in_ok-blocks.ensures ∙ (ap₂ (λ f l. map bare (chosen f l (blocks_of c.args.self.now))) from to ∙ ap (λ (v : Packed). map bare (chosen (max c.args.first (c.args.window - 11)) c.args.window (blocks_of v))) (sym c.self.view_is)) in
-    subst (λ (v : Packed). ArePieces c.args.first c.args.window (points_of v) c.in_ok-blocks.blocks.items) same (sealed_pieces s c.args.window may c.args.first c.in_ok-blocks.blocks.items copies)
+    c.in_ok-blocks.ensures ∙ (ap₂ (λ f l. map bare_block (chosen f l (blocks_of c.args.self.now))) from to ∙ ap (λ (v : Packed). map bare_block (chosen (max c.args.first (c.args.window - 11)) c.args.window (blocks_of v))) (sym c.self.view_is)) in
+    subst (λ (v : Packed). ArePieces c.args.first c.args.window (packed_points v) c.in_ok-blocks.blocks.items) same (sealed_pieces s c.args.window may c.args.first c.in_ok-blocks.blocks.items copies)

@@ -2,8 +2,8 @@ use Rattle.std.proofs.Common.{◌∷◌, ap, sym, ◌∙◌, subst, option_map}
 use Rattle.std.specs.List.{IsDistinct}
 use Rattle.std.specs.Map.{keys_of}
 use Rattle.std.specs.Str.{bytes_eq}
-use Rattle.gor_model.specs.Shares.{Entry}
-use Rattle.gor_dir.specs.Listings.{Listing, keyed, shown}
+use Rattle.gor_model.specs.Shares.{DirectoryEntry}
+use Rattle.gor_dir.specs.Listings.{Listing, keyed, directory_shown}
 use Rattle.gor_dir.specs.Rows.{LosesRow, IsKept}
 use Rattle.gor_dir.proofs.EventSteps.{without-after}
 use Rattle.gor_dir.proofs.Steps.{shown-without, shown-slot, kept-less}
@@ -17,7 +17,7 @@ invariant_of-self c =
 
 pub returns-clause-slot : goal.returns-clause-slot
 returns-clause-slot c =
-    ap (option_map (λ (row : Entry). row.slot)) (ap (λ (v : Listing). (shown v).entry c.args.key.now) (sym c.self.view_is))
+    ap (option_map (λ (row : DirectoryEntry). row.slot)) (ap (λ (v : Listing). (directory_shown v).entry c.args.key.now) (sym c.self.view_is))
     ∙ shown-slot _ c.remove-slot.new.self.rows c.args.key.now c.remove-slot.result c.remove-slot.ensures.row c.remove-slot.ensures.apart
 
 pub returns-clause-gone : goal.returns-clause-gone

@@ -4,10 +4,10 @@ use Rattle.gor_marks.specs.declared.mark.Mark.{Mark}
 use Rattle.gor_marks.specs.Spelling.{IsHome}
 use Rattle.gor_recover.specs.declared.recovered.LogTop.{LogTop}
 use Rattle.gor_image.specs.Images.{current}
-use Rattle.gor_flush.specs.Found.{Found}
+use Rattle.gor_flush.specs.Found.{IsFound}
 use Rattle.gor_recover.specs.Recovered.{IsRecovered}
-use Rattle.gor_flush.specs.Devices.{shown}
-use Rattle.gor_flush.specs.Opening.{AreFiles, HoldsOn, IsOpened}
+use Rattle.gor_flush.specs.Devices.{device_shown}
+use Rattle.gor_flush.specs.Opening.{AreFiles, HoldsOn, DiskIsOpened}
 use Rattle.gor_flush.specs.Preparing.{device_marks}
 use Rattle.gor_image.specs.DiskSteps.{GoesOn}
 use Rattle.gor_flush.proofs.Stands.{stands_open, moved, ensured_now}
@@ -22,7 +22,7 @@ returns-in-Ok-clause-device g c =
     let files = c.in-Ok.ready.prepared.files in
     let disk = c.get_ready.new.disk in
     let old = g.D.Disk.view c.args.disk in
-    stands_open (shown g.D.Disk.tells g.D.Disk.view g.D.Disk.faults d) c.args.slots r old
+    stands_open (device_shown g.D.Disk.tells g.D.Disk.view g.D.Disk.faults d) c.args.slots r old
     (moved (λ a b (x : ℕ). IsRecovered a b x r) c.args.shards d.shards c.args.shard d.shard c.args.slots c.args.slots (sym e.shards) (sym e.shard) refl q.recovered)
     (record {
       home = moved (λ a b (x : ℕ). IsHome a b) c.args.shards d.shards c.args.shard d.shard 0 0 (sym e.shards) (sym e.shard) refl c.requires.home;
@@ -42,10 +42,10 @@ returns-in-Ok-clause-device g c =
     (λ t. record {
       goes = subst (λ (v : DiskView). GoesOn old v) (ap g.D.Disk.view (sym e.disk)) (c.get_ready.ensures.goes t);
       holds = moved (λ a b (v : DiskView). HoldsOn a b old.seen old v) c.args.shards d.shards c.args.shard d.shard (g.D.Disk.view disk) (g.D.Disk.view d.disk) (sym e.shards) (sym e.shard) (ap g.D.Disk.view (sym e.disk)) (c.get_ready.ensures.held t);
-      found = moved (λ a b (x : ℕ). Found a b x old.seen r) c.args.shards d.shards c.args.shard d.shard c.args.slots c.args.slots (sym e.shards) (sym e.shard) refl (q.found t);
-      ready = moved (λ (l : List Mark) (tops : List LogTop) (v : DiskView). IsOpened d.shards d.shard old.seen l tops v) (device_marks c.args.shards c.args.shard r.marks.items) d.list.items r.tops.items d.tops.items (g.D.Disk.view disk) (g.D.Disk.view d.disk)
+      found = moved (λ a b (x : ℕ). IsFound a b x old.seen r) c.args.shards d.shards c.args.shard d.shard c.args.slots c.args.slots (sym e.shards) (sym e.shard) refl (q.found t);
+      ready = moved (λ (l : List Mark) (tops : List LogTop) (v : DiskView). DiskIsOpened d.shards d.shard old.seen l tops v) (device_marks c.args.shards c.args.shard r.marks.items) d.list.items r.tops.items d.tops.items (g.D.Disk.view disk) (g.D.Disk.view d.disk)
           (sym (ap (λ v. v.items) e.list ∙ q.list)) (sym (ap (λ v. v.items) e.tops ∙ q.tops)) (ap g.D.Disk.view (sym e.disk))
-          (moved (λ a b (x : ℕ). IsOpened a b old.seen (device_marks c.args.shards c.args.shard r.marks.items) r.tops.items (g.D.Disk.view disk)) c.args.shards d.shards c.args.shard d.shard 0 0 (sym e.shards) (sym e.shard) refl (q.opened t));
+          (moved (λ a b (x : ℕ). DiskIsOpened a b old.seen (device_marks c.args.shards c.args.shard r.marks.items) r.tops.items (g.D.Disk.view disk)) c.args.shards d.shards c.args.shard d.shard 0 0 (sym e.shards) (sym e.shard) refl (q.opened t));
       ensured = ensured_now d.marks d.keys d.log files (g.D.Disk.view disk) (g.D.Disk.view d.disk) (sym e.marks) (sym e.keys) (sym e.log) (ap g.D.Disk.view (sym e.disk)) (q.ensured t);
     })
 

@@ -1,5 +1,5 @@
 use Rattle.std.proofs.Common.{List, ℕ, drop, ◌∙◌, ap, arith, length-drop}
-use Rattle.gor_gate.specs.Places.{Place}
+use Rattle.gor_gate.specs.Places.{GatedPlace}
 use Rattle.gor_gate.specs.Frames.{Filling}
 use Rattle.gor_gate.proofs.Blocks.{whole, touches_by, pushed_by, reopened}
 use Rattle.gor_gate.proofs.gated.Gated.append.Goals as goal
@@ -10,17 +10,17 @@ append_block-outcome-requires-clause-block g c = whole _ (drop 8 c.frame.inside.
 pub returns-in_err-outcome-clause-any_moment : goal.returns-in_err-outcome-clause-any_moment
 returns-in_err-outcome-clause-any_moment g c = λ t.
     touches_by c.self.inside.file _ c.as_slice.result.now (drop 8 c.frame.inside.bytes.items) c.args.frame.now.body (g.D.Disk.view c.args.disk.now) (g.D.Disk.view c.append_block-outcome.new.disk)
-    (ap (λ (v : Place). v.file) c.self.view_is) (c.as_slice.ensures.value ∙ c.close.ensures.items) (ap (λ (v : Filling). v.body) c.frame.view_is) (c.append_block-outcome.ensures.any_moment t)
+    (ap (λ (v : GatedPlace). v.file) c.self.view_is) (c.as_slice.ensures.value ∙ c.close.ensures.items) (ap (λ (v : Filling). v.body) c.frame.view_is) (c.append_block-outcome.ensures.any_moment t)
 
 pub returns-clause-any_moment : goal.returns-clause-any_moment
 returns-clause-any_moment g c = λ t.
     touches_by c.self.inside.file _ c.as_slice.result.now (drop 8 c.frame.inside.bytes.items) c.args.frame.now.body (g.D.Disk.view c.args.disk.now) (g.D.Disk.view c.append_block-outcome.new.disk)
-    (ap (λ (v : Place). v.file) c.self.view_is) (c.as_slice.ensures.value ∙ c.close.ensures.items) (ap (λ (v : Filling). v.body) c.frame.view_is) (c.append_block-outcome.ensures.any_moment t)
+    (ap (λ (v : GatedPlace). v.file) c.self.view_is) (c.as_slice.ensures.value ∙ c.close.ensures.items) (ap (λ (v : Filling). v.body) c.frame.view_is) (c.append_block-outcome.ensures.any_moment t)
 
 pub returns-clause-appended : goal.returns-clause-appended
 returns-clause-appended g c = λ t.
     pushed_by c.self.inside.file _ c.as_slice.result.now (drop 8 c.frame.inside.bytes.items) c.args.frame.now.body (g.D.Disk.view c.args.disk.now) (g.D.Disk.view c.append_block-outcome.new.disk)
-    (ap (λ (v : Place). v.file) c.self.view_is) (c.as_slice.ensures.value ∙ c.close.ensures.items) (ap (λ (v : Filling). v.body) c.frame.view_is) (c.in_ok-outcome.ensures.appended t)
+    (ap (λ (v : GatedPlace). v.file) c.self.view_is) (c.as_slice.ensures.value ∙ c.close.ensures.items) (ap (λ (v : Filling). v.body) c.frame.view_is) (c.in_ok-outcome.ensures.appended t)
 
 pub returns-in_err-outcome-clause-frame : goal.returns-in_err-outcome-clause-frame
 returns-in_err-outcome-clause-frame g c =

@@ -1,6 +1,6 @@
 use Rattle.std.proofs.Common.{◌≡◌, ◌++◌, ◌∷◌, [], Ok, sym, subst}
 use Rattle.gor_marks.specs.declared.mark.Mark.TheVariants.{Sealed}
-use Rattle.gor_marks.specs.Spelling.{InLimits, is_home}
+use Rattle.gor_marks.specs.Spelling.{MarkInLimits, is_home}
 use Rattle.gor_image.specs.Images.{mark_after, is_none}
 use Rattle.gor_recover.proofs.MarkSteps.{carried_on}
 use Rattle.gor_recover.proofs.marks.MarkList.push.Goals as goal
@@ -13,7 +13,7 @@ invariant_of-self-in-Sealed c =
     let f = c.in-Sealed.first_log in
     let marks = c.self.inside.marks.items in
     let view : c.args.self.now ≡ marks = sym c.self.view_is in
-    let limits : InLimits (Sealed w k u f) = subst InLimits c.in-Sealed.is c.requires.limits in
+    let limits : MarkInLimits (Sealed w k u f) = subst MarkInLimits c.in-Sealed.is c.requires.limits in
     let first : is_home (Sealed w k u f) ≡ is_none marks = cc (c.requires.first, c.in-Sealed.is, view) in
     let may : mark_after marks c.requires.follows.0 (Sealed w k u f) ≡ Ok (marks ++ Sealed w k u f ∷ []) = cc (c.requires.follows.1, c.in-Sealed.is, view) in
     let on = carried_on marks c.self.inside.last c.self.inside.sealed c.self.inside.upto c.self.inside.first_log c.requires.follows.0 w k u f c.self.invariant limits first may in

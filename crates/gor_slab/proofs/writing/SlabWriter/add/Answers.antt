@@ -2,7 +2,7 @@ use Rattle.std.proofs.Common.{◌≡◌, ℕ, ◌+◌, ◌-◌, ◌≤◌, List,
 use Rattle.std.proofs.lemmas.List.{length-drop, drop-append-le}
 use Rattle.gor_model.proofs.Lists.{all_push}
 use Rattle.gor_slab.specs.declared.row.SlabRow.{SlabRow}
-use Rattle.gor_slab.specs.Spelling.{IsEntry, entry, blocks, row, rows_of}
+use Rattle.gor_slab.specs.Spelling.{IsEntry, entry, blocks, row, slab_rows_of}
 use Rattle.gor_slab.proofs.Writers.{rows_push, blocks_push}
 use Rattle.gor_slab.proofs.writing.SlabWriter.add.Goals as goal
 
@@ -19,6 +19,6 @@ returns-clause-added c = λ unit entries w.
       unit = w.unit;
       limits = all_push IsEntry entries e w.limits (record { uid = c.requires.uid; window = c.requires.window; block = c.requires.block });
       rows = c.push_reserved.ensures.items ∙ (ap (λ (rows : List SlabRow). rows ++ r (c.len.result - 24) ∷ []) (c.in_ok-reserve.ensures.items ∙ w.rows)
-          ∙ (ap (λ (p : ℕ). rows_of 0 entries ++ r p ∷ []) place ∙ sym (rows_push 0 entries e)));
+          ∙ (ap (λ (p : ℕ). slab_rows_of 0 entries ++ r p ∷ []) place ∙ sym (rows_push 0 entries e)));
       bytes = ap (drop 24) c.in_ok-extend_from_slice.ensures.items ∙ (drop-append-le 24 b.items block long ∙ (ap (λ (x : List ℕ). x ++ block) behind ∙ sym (blocks_push entries e)));
     }

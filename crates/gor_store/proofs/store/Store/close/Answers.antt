@@ -2,7 +2,7 @@ use Rattle.std.proofs.Common.{ℕ, List, sym, subst}
 use Rattle.gor_hall.specs.declared.pass.Pass.{Pass}
 use Rattle.gor_hall.specs.Halls.{start_of, lanes_of}
 use Rattle.gor_store.specs.Shards.{AreIdle, HasClosed}
-use Rattle.gor_store.specs.Stores.{passes_of, passes_with}
+use Rattle.gor_store.specs.Stores.{passes_of_store, passes_with}
 use Rattle.gor_store.proofs.NinePasses.{nine_passes, seated_idle}
 use Rattle.gor_store.proofs.store.Store.close.Goals as goal
 
@@ -15,6 +15,6 @@ pub returns : goal.returns
 returns g c = record {
   disk = c.close_shard.result;
   are = c.put_back.ensures;
-  closed = subst (λ (n : ℕ). HasClosed g.D.Disk.tells g.D.Disk.view g.D.Disk.faults (start_of c.args.self.hall) n (passes_of c.args.self) c.close_shard.result) c.requires.all
+  closed = subst (λ (n : ℕ). HasClosed g.D.Disk.tells g.D.Disk.view g.D.Disk.faults (start_of c.args.self.hall) n (passes_of_store c.args.self) c.close_shard.result) c.requires.all
       (subst (λ (ps : List Pass). HasClosed g.D.Disk.tells g.D.Disk.view g.D.Disk.faults (start_of c.args.self.hall) (lanes_of c.args.self.hall) ps c.close_shard.result) c.into_passes-passes.ensures c.close_shard.ensures);
 }

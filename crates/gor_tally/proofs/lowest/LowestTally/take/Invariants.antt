@@ -2,8 +2,8 @@
 use Rattle.std.proofs.Common.{◌≡◌, take}
 use Rattle.std.specs.Prelude.{option_to_list}
 use Rattle.gor_tally.specs.declared.rule.Rule.TheVariants.{Least}
-use Rattle.gor_tally.specs.Tallies.{step}
+use Rattle.gor_tally.specs.Tallies.{state_after}
 use Rattle.gor_tally.proofs.lowest.LowestTally.take.Given as goal
 
 abbrev pub invariant-loop-point : goal.invariant-loop-point
-invariant-loop-point l = option_to_list l.self-inside.word ≡ step Least (option_to_list l.fn.self) (take l.point-index l.point-items)
+invariant-loop-point l = option_to_list l.self-inside.word ≡ state_after Least (option_to_list l.fn.self) (take l.point-index l.point-items)

@@ -2,7 +2,7 @@ use Rattle.std.proofs.Common.{◌≡◌, ℕ, ◌+◌, ◌*◌, ap, ◌∙◌, r
 use Rattle.gor_model.specs.declared.unit.Unit.{Unit as TimeUnit}
 use Rattle.gor_model.specs.Windows.{window_length}
 use Rattle.gor_model.specs.Codes.{first_width}
-use Rattle.gor_times.specs.Times.{TimeMark, IsInside}
+use Rattle.gor_times.specs.Times.{TimeMark, IsInWindow}
 use Rattle.gor_times.proofs.TimeLaws.{first_time, no_first}
 use Rattle.gor_times.proofs.state.TimeState.read_first.Goals as goal
 
@@ -23,7 +23,7 @@ returns-then-time-end-clause-err c =
     let unit : c.self.inside.unit ≡ m.unit = ap {B = TimeUnit} (λ (x : TimeMark). x.unit) v in
     let last : c.self.inside.last ≡ m.last = ap {B = ℕ} (λ (x : TimeMark). x.last) v in
     let width : c.width_of-width.result ≡ first_width m.unit = c.width_of-width.ensures.value ∙ ap first_width unit in
-    let inside : IsInside m = subst (λ (x : TimeMark). IsInside x) v c.self.invariant in
+    let inside : IsInWindow m = subst (λ (x : TimeMark). IsInWindow x) v c.self.invariant in
     let wide = rw unit at c.width_of-width.ensures.fits in
     (refl, no_first m c.args.bits.now.bits c.args.at c.width_of-width.result c.in-Some.place c.requires width c.in-Some.ensures.value inside wide (omega (arith, c.end-end.ensures.value)))
 

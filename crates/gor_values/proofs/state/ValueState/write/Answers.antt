@@ -1,16 +1,16 @@
 use Rattle.std.proofs.Common.{◌≡◌, ℕ, Bool, true, false, refl, ap, ap₂, sym, subst, ◌∙◌}
 use Rattle.std.specs.Prelude.{Option, bit_xor}
 use Rattle.gor_model.specs.Codes.{bits, ValueWindow, changed_code}
-use Rattle.gor_values.specs.Words.{ValueMark, window_shown, next_code}
+use Rattle.gor_values.specs.Words.{ValueMark, window_shown, next_word_code}
 use Rattle.gor_values.proofs.Pushes.{follows, follows_as}
 use Rattle.gor_values.proofs.Found.{IsSound, next_alone, next_value, shown_in_word}
 use Rattle.gor_values.proofs.state.ValueState.write.Goals as goal
 use Rattle.gor_values.proofs.state.ValueState.write.Goals.{then-self, else-self}
 
-next_behind : (m : ValueMark) (word : ℕ) → m.begun ≡ true → next_code m word ≡ changed_code m.window (bit_xor word m.last)
+next_behind : (m : ValueMark) (word : ℕ) → m.begun ≡ true → next_word_code m word ≡ changed_code m.window (bit_xor word m.last)
 next_behind m word e = rw e refl
 
-next_first : (m : ValueMark) (word : ℕ) → m.begun ≡ false → next_code m word ≡ bits 64 word
+next_first : (m : ValueMark) (word : ℕ) → m.begun ≡ false → next_word_code m word ≡ bits 64 word
 next_first m word e = rw e refl
 
 pub returns-clause-bits : goal.returns-clause-bits
@@ -23,12 +23,12 @@ returns-clause-bits c =
     let window : window_shown c.self.inside.window ≡ m.window = ap {B = Option ValueWindow} (λ (x : ValueMark). x.window) v in
     elim c.if-self.branch [
       | then-self w ↦
-          let is : changed_code (window_shown c.self.inside.window) (bit_xor c.args.word c.self.inside.last) ≡ next_code m c.args.word =
+          let is : changed_code (window_shown c.self.inside.window) (bit_xor c.args.word c.self.inside.last) ≡ next_word_code m c.args.word =
           ap₂ changed_code window (ap (bit_xor c.args.word) last) ∙ sym (next_behind m c.args.word (sym begun ∙ w.if-self.true)) in
-          w.bits-is ∙ follows_as old _ _ (next_code m c.args.word) w.write_changed-self-inside.ensures.bits is
+          w.bits-is ∙ follows_as old _ _ (next_word_code m c.args.word) w.write_changed-self-inside.ensures.bits is
       | else-self w ↦
-          let is : bits 64 c.args.word ≡ next_code m c.args.word = sym (next_first m c.args.word (sym begun ∙ w.if-self.false)) in
-          w.bits-is ∙ follows_as old _ (bits 64 c.args.word) (next_code m c.args.word) (follows old _ 64 c.args.word w.push_reserved.ensures) is
+          let is : bits 64 c.args.word ≡ next_word_code m c.args.word = sym (next_first m c.args.word (sym begun ∙ w.if-self.false)) in
+          w.bits-is ∙ follows_as old _ (bits 64 c.args.word) (next_word_code m c.args.word) (follows old _ 64 c.args.word w.push_reserved.ensures) is
     ]
 
 pub returns-clause-alone : goal.returns-clause-alone
@@ -37,4 +37,4 @@ returns-clause-alone c =
     λ other small after h. next_alone c.args.self.now after c.args.word other sound c.ranges.word.fits small h
 
 pub returns-clause-model : goal.returns-clause-model
-returns-clause-model c = λ words is. ap (λ (m : ValueMark). next_code m c.args.word) is ∙ next_value words c.args.word
+returns-clause-model c = λ words is. ap (λ (m : ValueMark). next_word_code m c.args.word) is ∙ next_value words c.args.word
