@@ -3,14 +3,9 @@ ghost use Rattle.std.specs.Prelude.{◌≡◌, ◌+◌, ◌<◌, ◌≤◌, [], 
 ghost use Rattle.gor_hall.specs.Calls.{StaysPass};
 ghost use Rattle.gor_hall.specs.Halls.{IsPassOf};
 ghost use Rattle.gor_hall.specs.Passes.{view, held, at, lane_of, left_of_pass};
-ghost use Rattle.gor_journal.specs.Bodies.{AreEmpty};
-ghost use Rattle.gor_journal.specs.Records.{first_number};
-ghost use Rattle.gor_journal.specs.Stands.{Stands as Shows, AreOf};
 ghost use Rattle.gor_model.specs.Answers.{Legal};
-ghost use Rattle.gor_model.specs.Shares.{JournalShare};
-ghost use Rattle.gor_model.specs.SharesAfter.{journal_taken};
 ghost use Rattle.gor_flush.specs.Devices.{shown};
-ghost use Rattle.gor_flush.specs.Takes.{with_buffers, HasTaken, StandsDone, StandsStopped};
+ghost use Rattle.gor_flush.specs.Takes.{HasTaken, StandsDone, StandsStopped};
 ghost use Rattle.gor_model.specs.Changes.{History, changes};
 ghost use Rattle.gor_model.specs.declared.start.Start.{Start};
 ghost use Rattle.gor_finish.specs.Made.{HasMade};
@@ -21,29 +16,16 @@ use crate::events::{DoneMade, StopMade, TakeMade, TakeRefused};
 use crate::parts::{give_both, give_device, give_journal, take_device, take_journal};
 use crate::reply::FlushReply;
 use gor_disk::{DeviceFault, Disk};
-use gor_flush::{Device, Part};
+use gor_flush::{BoxedDevice, Part};
 use gor_hall::{Hall, Pass};
 use gor_journal::Journal;
-use std::snapshot::Snapshot;
 use std::sync::Wait;
-
-/// Moves all that waits to the device's buffers, and gives the count of changes.
-fn move_changes<D: Disk>(device: &mut Device<D>, journal: &mut Journal) -> u64
-    requires { AreEmpty (shown D.tells D.view D.faults device.old).buffers }
-    ensures same { with_buffers (shown D.tells D.view D.faults device.old).buffers (shown D.tells D.view D.faults device.new) ≡ shown D.tells D.view D.faults device.old }
-    ensures count { result ≡ (shown D.tells D.view D.faults device.new).buffers.changes }
-    ensures taken { (share : JournalShare) → Shows journal.old.pending share → AreOf (first_number share) share.buffered (shown D.tells D.view D.faults device.new).buffers }
-    ensures left { (share : JournalShare) → Shows journal.old.pending share → Shows journal.new.pending (journal_taken share) }
-{
-    journal.take(device.buffers());
-    device.buffers().changes
-}
 
 /// The Take of a shard that is stopped.
 fn refuse<D: Disk>(
     shard: &Hall<Part<D>>,
     pass: &mut Pass,
-    device: Device<D>,
+    device: BoxedDevice<D>,
     journal: Journal,
 ) -> u64
     requires pass { IsPassOf shard.now pass.old × (0 < left_of_pass pass.old) × (held pass.old ≡ journal_of (view pass.old) ∷ 0 ∷ []) }
@@ -64,7 +46,7 @@ fn refuse<D: Disk>(
 fn take_all<D: Disk>(
     shard: &Hall<Part<D>>,
     pass: &mut Pass,
-    device: &mut Device<D>,
+    device: &mut BoxedDevice<D>,
     mut journal: Journal,
 ) -> (u64, u64)
     requires pass { IsPassOf shard.now pass.old × (0 < left_of_pass pass.old) × (held pass.old ≡ journal_of (view pass.old) ∷ 0 ∷ []) }
@@ -78,7 +60,7 @@ fn take_all<D: Disk>(
     ensures legal { Legal (view pass.new).start (at pass.new) }
     ensures waits { Waits (view pass.new) (shown D.tells D.view D.faults device.new) }
 {
-    let changes = move_changes(device, &mut journal);
+    let changes = device.take_from(&mut journal);
     let event = TakeMade {
         lane: pass.lane(),
         changes,
@@ -89,7 +71,12 @@ fn take_all<D: Disk>(
 }
 
 /// The Done of a device that has written all that it took.
-fn end_done<D: Disk>(shard: &Hall<Part<D>>, pass: &mut Pass, device: Device<D>, changes: u64) -> u64
+fn end_done<D: Disk>(
+    shard: &Hall<Part<D>>,
+    pass: &mut Pass,
+    device: BoxedDevice<D>,
+    changes: u64,
+) -> u64
     requires pass { IsPassOf shard.now pass.old × (0 < left_of_pass pass.old) × (held pass.old ≡ 0 ∷ []) }
     requires legal { Legal (view pass.old).start (at pass.old) }
     requires written { HasWritten (view pass.old) (shown D.tells D.view D.faults device) changes }
@@ -99,7 +86,7 @@ fn end_done<D: Disk>(shard: &Hall<Part<D>>, pass: &mut Pass, device: Device<D>, 
     let event = DoneMade {
         lane: pass.lane(),
         changes,
-        disk: Snapshot::of(&device.disk),
+        disk: device.disk_now(),
     };
     let number = shard.mark(pass, &event);
     give_device(shard, pass, device);
@@ -111,7 +98,7 @@ fn end_stop<D: Disk, R: Wait>(
     rt: &R,
     shard: &Hall<Part<D>>,
     pass: &mut Pass,
-    device: Device<D>,
+    device: BoxedDevice<D>,
 ) -> u64
     requires pass { IsPassOf shard.now pass.old × (0 < left_of_pass pass.old) × (held pass.old ≡ 0 ∷ []) }
     requires failed { HasFailed (view pass.old) (shown D.tells D.view D.faults device) }
@@ -131,7 +118,7 @@ fn write_out<D: Disk, R: Wait>(
     rt: &R,
     shard: &Hall<Part<D>>,
     pass: &mut Pass,
-    mut device: Device<D>,
+    mut device: BoxedDevice<D>,
     take: u64,
     taken: u64,
 ) -> FlushReply

@@ -11,13 +11,17 @@ ghost use Rattle.gor_flush.specs.Devices.{shown};
 ghost use Rattle.gor_finish.specs.Steps.{journal_of, DeviceStands, JournalStands, IsLike};
 
 use gor_disk::Disk;
-use gor_flush::{Device, Part};
+use gor_flush::{BoxedDevice, Part};
 use gor_hall::{Hall, Pass};
 use gor_journal::Journal;
 use std::sync::Wait;
 
 /// Takes the device, and waits until it is free. The pass holds nothing.
-pub fn take_device<D: Disk, R: Wait>(rt: &R, shard: &Hall<Part<D>>, pass: &mut Pass) -> Device<D>
+pub fn take_device<D: Disk, R: Wait>(
+    rt: &R,
+    shard: &Hall<Part<D>>,
+    pass: &mut Pass,
+) -> BoxedDevice<D>
     requires { IsPassOf shard.now pass.old × (held pass.old ≡ []) }
     ensures pass { StaysPass shard.now 0 pass.old pass.new }
     ensures waited { HasWaited (part_stands D.tells D.view D.faults) (view pass.old) 0 (part.Device result) (view pass.new) }
@@ -47,7 +51,7 @@ pub fn give_journal<D: Disk>(shard: &Hall<Part<D>>, pass: &mut Pass, journal: Jo
 }
 
 /// Gives the device back, which is all that the pass holds.
-pub fn give_device<D: Disk>(shard: &Hall<Part<D>>, pass: &mut Pass, device: Device<D>)
+pub fn give_device<D: Disk>(shard: &Hall<Part<D>>, pass: &mut Pass, device: BoxedDevice<D>)
     requires pass { IsPassOf shard.now pass.old × (held pass.old ≡ 0 ∷ []) }
     requires stands { DeviceStands (view pass.old) (shown D.tells D.view D.faults device) }
     ensures pass { StaysPass shard.now 0 pass.old pass.new × (held pass.new ≡ []) }
@@ -60,7 +64,7 @@ pub fn give_device<D: Disk>(shard: &Hall<Part<D>>, pass: &mut Pass, device: Devi
 pub fn give_both<D: Disk>(
     shard: &Hall<Part<D>>,
     pass: &mut Pass,
-    device: Device<D>,
+    device: BoxedDevice<D>,
     journal: Journal,
 )
     requires pass { IsPassOf shard.now pass.old × (held pass.old ≡ journal_of (view pass.old) ∷ 0 ∷ []) }

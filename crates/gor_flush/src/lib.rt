@@ -2,6 +2,7 @@
 //! shard's table.
 //!
 //! - `device`, `open`: the device, and how it is opened on what its disk holds.
+//! - `boxed`: the device in a box.
 //! - `preparing`, `beginning`, `reopening`, `files`: a fresh store is begun, or the files that are appended to are made ready.
 //! - `dropping`: the files that the last mark replaces are cut.
 //! - `append`: the key records of a flush, and then its batch.
@@ -13,6 +14,7 @@
 
 mod append;
 mod beginning;
+mod boxed;
 mod device;
 mod dropping;
 mod files;
@@ -26,6 +28,7 @@ mod turning;
 mod writing;
 
 pub use append::append_taken;
+pub use boxed::BoxedDevice;
 pub use device::Device;
 pub use dropping::drop_old;
 pub use open::NoDevice;

@@ -1,5 +1,5 @@
 //! The value of an object of a shard, of whichever kind.
-use crate::device::Device;
+use crate::boxed::BoxedDevice;
 use gor_cell::Cell;
 use gor_dir::Directory;
 use gor_disk::Disk;
@@ -9,8 +9,8 @@ use gor_rule::Thing;
 /// The value of an object of a shard.
 #[derive(Drop)]
 pub enum Part<D: Disk> {
-    /// The device, object 0.
-    Device(Device<D>),
+    /// The device, object 0, in a box: what the table moves is small.
+    Device(BoxedDevice<D>),
     /// The directory, object 1.
     Directory(Directory),
     /// The series of the slot `s`, object `s + 2`.
@@ -30,8 +30,8 @@ impl<D: Disk> Part<D> {
     ghost use Rattle.gor_flush.specs.Parts.{IsDevice, IsDirectory, IsSeries, IsJournal};
     ghost use Rattle.gor_flush.specs.declared.part.Part.TheVariants as part;
 
-    /// The device that it is.
-    pub fn into_device(self) -> Device<D>
+    /// The device that it is, in its box.
+    pub fn into_device(self) -> BoxedDevice<D>
         requires { IsDevice self }
         ensures { self ≡ part.Device result }
     {

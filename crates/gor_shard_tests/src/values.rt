@@ -17,6 +17,7 @@ use gor_journal::Journal;
 use gor_recover::Recovered;
 use gor_store::values_of;
 use std::alloc::{AllocError, Global};
+use std::mem::size_of;
 use std::test::Fail;
 
 // The device that an opening of an empty disk gave, as that of any rows.
@@ -225,4 +226,12 @@ fn nothing_recovered_is_an_empty_shard(rt: HostRuntime) -> Result<(), Fail> {
         "the place of a fact"
     );
     Ok(())
+}
+
+/// The most bytes that a part may have, since it is moved at each take and give.
+const MOST_BYTES: usize = 256;
+
+#[test]
+fn a_part_is_small_where_it_is_moved(rt: HostRuntime) {
+    assert!(rt; size_of::<Part<SilentDisk>>() <= MOST_BYTES);
 }

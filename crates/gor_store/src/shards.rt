@@ -32,12 +32,12 @@ pub struct OpenShard<D: Disk> {
     pub passes: Vec<Pass>,
 }
 
-/// The device among the values of a shard. The other values are dropped.
+/// The device among the values of a shard, out of its box. The other values are dropped.
 fn first_device<D: Disk>(mut values: Vec<Part<D>>) -> Device<D>
     requires { (device : AnyDevice D) × IsFirst device values.items }
     ensures { IsFirst result values.items }
 {
-    values.swap_remove(0).into_device()
+    values.swap_remove(0).into_device().into_inner()
 }
 
 /// A hall of what was recovered. Where memory is wanting the device comes back as it was.

@@ -17,7 +17,7 @@ use crate::directory::directory_of;
 use gor_cell::Cell;
 use gor_dir::Directory;
 use gor_disk::Disk;
-use gor_flush::{Device, Part};
+use gor_flush::{BoxedDevice, Device, Part};
 use gor_journal::Journal;
 use gor_recover::Recovered;
 use std::alloc::{AllocError, Global};
@@ -58,7 +58,11 @@ fn push_series<D: Disk>(values: &mut Vec<Part<D>>, cells: Vec<Cell>)
 }
 
 /// A device and the other parts, in the order of their numbers. The room for them is there.
-fn with_device<D: Disk>(mut values: Vec<Part<D>>, device: Device<D>, parts: Parts) -> Vec<Part<D>>
+fn with_device<D: Disk>(
+    mut values: Vec<Part<D>>,
+    device: BoxedDevice<D>,
+    parts: Parts,
+) -> Vec<Part<D>>
     requires empty { values.items ≡ [] }
     requires room { length parts.cells.items + 3 ≤ vec_capacity values }
     ensures { result.items ≡ in_order device parts }
@@ -78,7 +82,8 @@ fn with_device<D: Disk>(mut values: Vec<Part<D>>, device: Device<D>, parts: Part
 /// The values of a shard's objects, in the order of their numbers: the device, the directory, a cell for each slot, and the
 /// journal. Each stands for its share of the empty history from what was recovered with so many slots.
 ///
-/// It calls no disk, and reads each recovered point once. Where memory is wanting the device comes back as it was.
+/// It calls no disk, reads each recovered point once, and makes the box that the device then lies in. Where memory is wanting
+/// the device comes back as it was.
 pub fn values_of<D: Disk>(
     alloc: Global,
     device: Device<D>,
@@ -97,7 +102,10 @@ pub fn values_of<D: Disk>(
         Err(_) => return Err(device),
     };
     match parts_of(alloc, &recovered, slots) {
-        Ok(parts) => Ok(with_device(room, device, parts)),
+        Ok(parts) => {
+            let boxed = BoxedDevice::new(alloc, device)?;
+            Ok(with_device(room, boxed, parts))
+        }
         Err(_) => Err(device),
     }
 }
