@@ -7,3 +7,4 @@ pub mod Tries
 pub mod Held
 pub mod Dels
 pub mod Puts
+pub mod Finishes

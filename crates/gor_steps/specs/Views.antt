@@ -1,5 +1,5 @@
 -- What a pass knows of the parts that it holds, and what its steps leave as it was.
-use Rattle.std.specs.Prelude.{◌≡◌, ℕ, ◌^◌, ◌≤◌, ◌∷◌, length}
+use Rattle.std.specs.Prelude.{◌≡◌, ℕ, ◌^◌, ◌≤◌, ◌∷◌, length, Some}
 use Rattle.gor_model.specs.declared.start.Move.TheVariants.{Took}
 use Rattle.gor_model.specs.declared.event.Event.{Event}
 use Rattle.gor_model.specs.Starts.{IsStart}
@@ -63,3 +63,11 @@ pub record HasEvent (v : View) (n : ℕ) (e : Event) (w : View) : Type 0 where
   pub legal : Legal w.start w.seen
   pub lane : numbers e.lane w.seen ≡ n ∷ v.mine
   pub mine : w.mine ≡ n ∷ v.mine
+
+-- the pass made no event, and may have seen more of the history
+pub record SeesMore (v w : View) : Type 0 where
+  pub start : w.start ≡ v.start
+  pub begins : IsBeginning v.seen w.seen
+  pub legal : Legal w.start w.seen
+  pub mine : w.mine ≡ v.mine
+  pub own : (lane : ℕ) → v.lane ≡ Some lane → numbers lane w.seen ≡ v.mine

@@ -31,6 +31,20 @@ pub(crate) fn journal_object<V: Parts<K>, K>(shard: &Hall<V>) -> u32
     shard.objects() - 1
 }
 
+/// Takes the directory, over what lies below it.
+pub(crate) fn take_directory_over<V: Parts<K>, K, R: Wait>(
+    rt: &R,
+    shard: &Hall<V>,
+    pass: &mut Pass,
+) -> Directory
+    requires pass { IsPassOf shard.now pass.old × AllBelow 1 (held pass.old) }
+    ensures pass { StaysPass shard.now 0 pass.old pass.new }
+    ensures took { Takes (view pass.old) 1 (view pass.new) }
+    ensures stands { HasDirectory (view pass.new) result }
+{
+    shard.take(rt, pass, 1).into_directory()
+}
+
 /// Takes the directory.
 pub(crate) fn take_directory<V: Parts<K>, K, R: Wait>(
     rt: &R,
@@ -42,7 +56,7 @@ pub(crate) fn take_directory<V: Parts<K>, K, R: Wait>(
     ensures took { Takes (view pass.old) 1 (view pass.new) }
     ensures stands { HasDirectory (view pass.new) result }
 {
-    shard.take(rt, pass, 1).into_directory()
+    take_directory_over(rt, shard, pass)
 }
 
 /// Takes the directory where nobody holds it.

@@ -1,7 +1,7 @@
 use Rattle.gor_model.specs.Shares.{directory_share}
 use Rattle.gor_hall.specs.Passes.{view}
 use Rattle.gor_steps.proofs.PartLaws.{took_directory}
-use Rattle.gor_steps.proofs.parts.take_directory.Goals as goal
+use Rattle.gor_steps.proofs.parts.take_directory_over.Goals as goal
 
 pub into_directory-requires : goal.into_directory-requires
 into_directory-requires g c =

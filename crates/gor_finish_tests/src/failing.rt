@@ -1,0 +1,1 @@
+//! Each call of the disk failing in turn, and every image of every moment.
