@@ -102,7 +102,7 @@ fn end<R: Wait>(
     Ok((Some(how), stopped))
 }
 
-fn run<R: Wait>(rt: &R, alloc: Global, disk: MemoryDisk, far: Far) -> Result<Run, NoAnswer> {
+fn make_run<R: Wait>(rt: &R, alloc: Global, disk: MemoryDisk, far: Far) -> Result<Run, NoAnswer> {
     let Ok(mut test) = open(alloc, disk) else {
         return Err(NoAnswer);
     };
@@ -132,28 +132,39 @@ fn run<R: Wait>(rt: &R, alloc: Global, disk: MemoryDisk, far: Far) -> Result<Run
 
 /// How many calls of the disk a run makes.
 fn calls_of<R: Wait>(rt: &R, alloc: Global, far: Far) -> Result<u64, NoAnswer> {
-    let run = run(rt, alloc, MemoryDisk::new(alloc), far)?;
+    let run = make_run(rt, alloc, MemoryDisk::new(alloc), far)?;
     Ok(run.disk.calls().len() as u64)
 }
 
-/// Whether each image of each moment has a state that it may have, where the call with the place `failed` failed.
-fn all_hold(alloc: Global, disk: &MemoryDisk, opened: u64, flushed: u64, finished: u64) -> bool {
-    let calls = disk.calls().len() as u64;
-    for moment in 0..calls + 1 {
-        let least = if moment >= finished {
-            2
-        } else if moment >= flushed {
-            1
-        } else {
-            0
-        };
-        let most = if moment <= opened {
-            0
-        } else if moment <= flushed {
-            1
-        } else {
-            2
-        };
+/// The least state of a moment, by how many calls of the disk there were as the flush and the finish were answered that ended
+/// well.
+fn least_at(moment: u64, flushed: u64, finished: u64) -> u32 {
+    if moment >= finished {
+        2
+    } else if moment >= flushed {
+        1
+    } else {
+        0
+    }
+}
+
+/// The greatest state of a moment, by how many calls there were as the flush and the finish began.
+fn most_at(moment: u64, flush: u64, finish: u64) -> u32 {
+    if moment <= flush {
+        0
+    } else if moment <= finish {
+        1
+    } else {
+        2
+    }
+}
+
+/// Whether each image of each moment has a state that it may have. The calls are counted as the flush and the finish began,
+/// and as they were answered.
+fn all_hold(alloc: Global, disk: &MemoryDisk, began: [u64; 2], ended: [u64; 2]) -> bool {
+    for moment in 0..disk.calls().len() as u64 + 1 {
+        let least = least_at(moment, ended[0], ended[1]);
+        let most = most_at(moment, began[0], began[1]);
         if !images_hold(alloc, disk, moment, least, most) {
             return false;
         }
@@ -183,10 +194,10 @@ fn images_hold_where_nothing_fails(rt: HostRuntime) -> Result<(), Fail> {
     let alloc = rt.alloc();
     let opened = calls_of(&rt, alloc, Far::Opening)?;
     let flushed = calls_of(&rt, alloc, Far::Flush)?;
-    let run = run(&rt, alloc, MemoryDisk::new(alloc), Far::Finish)?;
+    let run = make_run(&rt, alloc, MemoryDisk::new(alloc), Far::Finish)?;
     let finished = run.disk.calls().len() as u64;
     assert!(rt; run.flushed && run.finished == Some(FinishEnd::Done) && !run.stopped);
-    assert!(rt; all_hold(alloc, &run.disk, opened, flushed, finished));
+    assert!(rt; all_hold(alloc, &run.disk, [opened, flushed], [flushed, finished]));
     for choice in 0..4 {
         assert!(rt; goes_on(&rt, alloc, &run.disk, choice)?);
     }
@@ -202,16 +213,16 @@ fn each_call_of_the_disk_may_fail(rt: HostRuntime) -> Result<(), Fail> {
     for place in opened..finished {
         let mut failing = Vec::with_capacity(alloc, 1)?;
         failing.push(place)?;
-        let run = run(&rt, alloc, MemoryDisk::failing(alloc, failing), Far::Finish)?;
-        let end = if place < flushed {
-            FinishEnd::Stopped
+        let run = make_run(&rt, alloc, MemoryDisk::failing(alloc, failing), Far::Finish)?;
+        let (end, ended) = if place < flushed {
+            (FinishEnd::Stopped, [u64::MAX, u64::MAX])
         } else {
-            FinishEnd::Fault
+            (FinishEnd::Fault, [flushed, u64::MAX])
         };
         assert!(rt; run.flushed == (place >= flushed), "call {place}");
         assert!(rt; run.finished == Some(end), "call {place}");
         assert!(rt; run.stopped && run.disk.calls().len() as u64 == place + 1, "call {place}");
-        assert!(rt; all_hold(alloc, &run.disk, opened, flushed, finished), "call {place}");
+        assert!(rt; all_hold(alloc, &run.disk, [opened, flushed], ended), "call {place}");
         for choice in 0..4 {
             assert!(rt; goes_on(&rt, alloc, &run.disk, choice)?, "call {place}");
         }

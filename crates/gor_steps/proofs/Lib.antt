@@ -11,3 +11,6 @@ pub mod PutLaws
 pub mod Uids
 pub mod BeginLaws
 pub mod PutMoves
+pub mod FinishLaws
+pub mod SealedLaws
+pub mod SealLaws

@@ -1,16 +1,16 @@
 //! The Floor of a finish, over a pass that holds the device.
-ghost use Rattle.std.specs.Prelude.{◌≡◌, ◌+◌, ◌^◌, ◌<◌, ◌≤◌, [], ◌∷◌, false, IfOk, OnErr, ℕ};
+ghost use Rattle.std.specs.Prelude.{◌≡◌, ◌+◌, ◌^◌, ◌<◌, ◌≤◌, [], ◌∷◌, false, IfOk, OnErr};
 ghost use Rattle.gor_model.specs.declared.event.Call.TheVariants as call;
 ghost use Rattle.gor_model.specs.declared.event.Change.TheVariants as change;
-ghost use Rattle.gor_model.specs.AnswersByShares.{floor_by};
-ghost use Rattle.gor_model.specs.Shares.{DeviceShare, JournalShare, Nothing};
+ghost use Rattle.gor_model.specs.Shares.{JournalShare, Nothing};
 ghost use Rattle.gor_model.specs.SharesAfter.{directory_raised, journal_with};
 ghost use Rattle.gor_model.specs.Windows.{last_window, window_end};
 ghost use Rattle.gor_dir.specs.Listings.{shown};
 ghost use Rattle.gor_journal.specs.Stands.{Stands};
 ghost use Rattle.gor_hall.specs.Halls.{IsPassOf};
 ghost use Rattle.gor_hall.specs.Passes.{view, held, lane_of, left_of_pass};
-ghost use Rattle.gor_steps.specs.Finishes.{HasWide, KeepsDevice, FloorsDevice, RaisesIfFloor, IsQuietFloor, IsSameWide, device_of, floor_reply, floor_event};
+ghost use Rattle.gor_steps.specs.Finishes.{HasWide, KeepsDevice, FloorTold, FloorsDevice, RaisesIfFloor, IsQuietFloor, device_of, floor_reply};
+ghost use Rattle.gor_steps.specs.declared.floors.FloorAnswer.TheVariants as floor_;
 ghost use Rattle.gor_steps.specs.Points.{Makes, MakesNone};
 ghost use Rattle.gor_steps.specs.Views.{IsSound};
 
@@ -59,7 +59,7 @@ impl Says for Floored {
 
 // What a Floor of a window is answered.
 fn floor_answer(wide: &Wide, window: u32) -> FloorAnswer
-    ensures told { (device : DeviceShare) (journal : JournalShare) → device.floor ≡ (shown wide.now.directory).floor → journal.stopped ≡ wide.now.journal.pending.stopped → floor_by device journal window ≡ floor_reply result }
+    ensures { FloorTold window wide.now result }
 {
     if wide.journal.stopped() {
         return FloorAnswer::Stopped;
@@ -84,12 +84,12 @@ fn refuse_floor<V: Parts<K>, K>(
     requires window { window ≤ last_window }
     requires sound { IsSound (view pass.old) }
     requires stands { HasWide (view pass.old) wide }
-    requires told { (device : DeviceShare) (journal : JournalShare) → device.floor ≡ (shown wide.directory).floor → journal.stopped ≡ wide.journal.pending.stopped → floor_by device journal window ≡ floor_reply answer }
+    requires told { FloorTold window wide answer }
     requires quiet { IsQuietFloor answer }
     ensures pass { IsPassOf shard.now pass.new × (held pass.new ≡ 0 ∷ []) × (lane_of pass.new ≡ lane_of pass.old) }
     ensures event { Makes pass.old result.number (call.Floor window) (floor_reply result.answer) pass.new }
-    ensures answer { result.answer ≡ answer }
-    ensures device { KeepsDevice (view pass.old) (view pass.new) }
+    ensures device { FloorsDevice window result.answer (device_of (view pass.old)) (device_of (view pass.new)) }
+    ensures raised { RaisesIfFloor window result.answer (view pass.new) }
 {
     let floored = Floored {
         lane: pass.lane(),
@@ -128,9 +128,7 @@ fn raise<V: Parts<K>, K>(
     requires window { window ≤ last_window }
     requires sound { IsSound (view pass.old) }
     requires stands { HasWide (view pass.old) wide }
-    requires floor { floor ≡ window_end window }
-    requires below { (shown wide.directory).floor < window_end window }
-    requires running { wide.journal.pending.stopped ≡ false }
+    requires told { FloorTold window wide (floor_.Floor floor) }
     requires room { 31 ≤ wide.journal.log_room }
     ensures pass { IsPassOf shard.now pass.new × (held pass.new ≡ 0 ∷ []) × (lane_of pass.new ≡ lane_of pass.old) }
     ensures event { Makes pass.old result.number (call.Floor window) (floor_reply result.answer) pass.new }
@@ -147,6 +145,36 @@ fn raise<V: Parts<K>, K>(
     let wide = raise_in(wide, window);
     give_wide(shard, pass, wide);
     FloorReply { number, answer }
+}
+
+// Makes room for a Floor that raises the shard's floor, and makes it.
+fn reserve_and_raise<V: Parts<K>, K>(
+    shard: &Hall<V>,
+    pass: &mut Pass,
+    wide: Wide,
+    window: u32,
+    floor: u64,
+) -> Result<FloorReply, AllocError>
+    requires pass { IsPassOf shard.now pass.old × (0 < left_of_pass pass.old) }
+    requires window { window ≤ last_window }
+    requires sound { IsSound (view pass.old) }
+    requires stands { HasWide (view pass.old) wide }
+    requires told { FloorTold window wide (floor_.Floor floor) }
+    ensures pass { IsPassOf shard.now pass.new × (held pass.new ≡ 0 ∷ []) × (lane_of pass.new ≡ lane_of pass.old) }
+    ensures event { IfOk result (λ r. Makes pass.old r.number (call.Floor window) (floor_reply r.answer) pass.new) }
+    ensures device { IfOk result (λ r. FloorsDevice window r.answer (device_of (view pass.old)) (device_of (view pass.new))) }
+    ensures raised { IfOk result (λ r. RaisesIfFloor window r.answer (view pass.new)) }
+    ensures none { OnErr result (MakesNone pass.old pass.new) }
+    ensures kept { OnErr result (KeepsDevice (view pass.old) (view pass.new)) }
+{
+    let mut wide = wide;
+    match wide.journal.reserve(&Entry::Floor { window }) {
+        Ok(()) => Ok(raise(shard, pass, wide, window, floor)),
+        Err(fault) => {
+            give_wide(shard, pass, wide);
+            Err(fault)
+        }
+    }
 }
 
 /// Makes the Floor of a window, at most 596,522, by one event; the pass holds the device, and keeps it. The directory and the
@@ -168,16 +196,19 @@ pub fn make_floor<V: Parts<K>, K, R: Wait>(
     ensures none { OnErr result (MakesNone pass.old pass.new) }
     ensures kept { OnErr result (KeepsDevice (view pass.old) (view pass.new)) }
 {
-    let mut wide = take_wide(rt, shard, pass);
-    let answer = floor_answer(&wide, window);
-    let FloorAnswer::Floor { floor } = answer else {
-        return Ok(refuse_floor(shard, pass, wide, window, answer));
-    };
-    match wide.journal.reserve(&Entry::Floor { window }) {
-        Ok(()) => Ok(raise(shard, pass, wide, window, floor)),
-        Err(fault) => {
-            give_wide(shard, pass, wide);
-            Err(fault)
+    let wide = take_wide(rt, shard, pass);
+    match floor_answer(&wide, window) {
+        FloorAnswer::Floor { floor } => reserve_and_raise(shard, pass, wide, window, floor),
+        FloorAnswer::Sealed { floor } => {
+            let answer = FloorAnswer::Sealed { floor };
+            Ok(refuse_floor(shard, pass, wide, window, answer))
         }
+        FloorAnswer::Stopped => Ok(refuse_floor(
+            shard,
+            pass,
+            wide,
+            window,
+            FloorAnswer::Stopped,
+        )),
     }
 }

@@ -1,16 +1,13 @@
 //! The Seal of one series by a finish, over a pass that holds the device.
-ghost use Rattle.std.specs.Prelude.{◌≡◌, ◌+◌, ◌^◌, ◌<◌, ◌≤◌, [], ◌∷◌, ℕ, List, Some, false, true, IsSome, IfSome, IfOk, IfErr, OnOk, OnErr, IsTrue};
-ghost use Rattle.gor_model.specs.declared.event.Change.TheVariants as change;
-ghost use Rattle.gor_model.specs.Names.{key_of};
-ghost use Rattle.gor_model.specs.Shares.{JournalShare, SeriesShare, OfSeries};
-ghost use Rattle.gor_model.specs.SharesAfter.{journal_with};
-ghost use Rattle.gor_model.specs.Windows.{last_window, window_end};
+ghost use Rattle.std.specs.Prelude.{ℕ, ◌≡◌, ◌+◌, ◌^◌, ◌<◌, ◌≤◌, [], ◌∷◌, false, true, IsSome, IfSome, IfOk, IfErr, OnOk, OnErr};
+ghost use Rattle.gor_model.specs.Fields.{IsNumber};
+ghost use Rattle.gor_model.specs.Windows.{last_window};
 ghost use Rattle.gor_hall.specs.Halls.{IsPassOf, start_of};
 ghost use Rattle.gor_hall.specs.Passes.{view, held, lane_of, left_of_pass};
-ghost use Rattle.gor_steps.specs.Finishes.{AreSealedBelow, HasRaised, KeepsDevice, Seals, SealsIfOpen, SealsIn, IsOpenTo};
+ghost use Rattle.gor_steps.specs.Finishes.{AreSealedBelow, HasRaised, KeepsDevice, IsSameBoth, Seals, SealsNone, SealsIfOpen, SealsIn, is_open_to};
 ghost use Rattle.gor_steps.specs.Points.{MakesNone};
 ghost use Rattle.gor_steps.specs.Puts.{HasBoth};
-ghost use Rattle.gor_steps.specs.Views.{IsSound};
+ghost use Rattle.gor_steps.specs.Views.{HasSeries, IsSound};
 
 use crate::held::{Both, give_both};
 use crate::kinds::Parts;
@@ -55,18 +52,21 @@ impl Says for Sealed<'_> {
 
 // A series that is sealed, with the journal that has its change.
 #[derive(Drop)]
-struct Made {
-    both: Both,
-    name: Bytes,
-    uid: u64,
-    sealed: SealedBlocks,
+pub(crate) struct Made {
+    pub(crate) both: Both,
+    pub(crate) name: Bytes,
+    pub(crate) uid: u64,
+    pub(crate) sealed: SealedBlocks,
 }
 
 // Whether there is a series, and its floor is below the end of a window.
 fn is_open(cell: &Cell, window: u32) -> bool
-    ensures { IsOpenTo window cell.now.live result }
+    ensures { result ≡ is_open_to window cell.now.live }
 {
-    cell.is_live() && cell.floor() < end_of(window)
+    if !cell.is_live() {
+        return false;
+    }
+    cell.floor() < end_of(window)
 }
 
 // The bytes of a name.
@@ -83,7 +83,12 @@ fn reserve_seal(
     alloc: Global,
     both: &mut Both,
     window: u32,
-) -> Result<(Bytes, u64), AllocError> {
+) -> Result<(Bytes, u64), AllocError>
+    requires { IsSome both.old.cell.live }
+    ensures same { IsSameBoth both.old both.new }
+    ensures told { IfOk result (λ r. IfSome both.old.cell.live (λ s. (r.0 ≡ s.name) × (r.1 ≡ s.uid))) }
+    ensures room { OnOk result (39 ≤ both.new.journal.log_room) }
+{
     let name = bytes_of(alloc, both.cell.name())?;
     let uid = both.cell.uid();
     both.journal.reserve(&Entry::Seal { uid, window })?;
@@ -91,7 +96,15 @@ fn reserve_seal(
 }
 
 // Seals the series in both. Where memory is wanting both stand for what they did.
-fn seal_in(alloc: Global, both: Both, first: u32, window: u32) -> Result<Made, Both> {
+fn seal_in(alloc: Global, both: Both, first: u32, window: u32) -> Result<Made, Both>
+    requires windows { (first ≤ window) × (window ≤ last_window) }
+    requires open { is_open_to window both.cell.live ≡ true }
+    requires uid { IfSome both.cell.live (λ s. IsNumber s.uid) }
+    requires running { both.journal.pending.stopped ≡ false }
+    requires numbers { (both.journal.pending.next < 2 ^ 62 + 2 ^ 45) × (both.journal.pending.buffered < 2 ^ 50) }
+    ensures ok { IfOk result (SealsIn first window both) }
+    ensures err { IfErr result (IsSameBoth both) }
+{
     let mut both = both;
     let Ok((name, uid)) = reserve_seal(alloc, &mut both, window) else {
         return Err(both);
@@ -119,7 +132,21 @@ fn seal<V: Parts<K>, K>(
     both: Both,
     first: u32,
     window: u32,
-) -> Result<SealReply, AllocError> {
+) -> Result<SealReply, AllocError>
+    requires pass { IsPassOf shard.now pass.old × (0 < left_of_pass pass.old) × (held pass.old ≡ ((start_of shard.now).slots + 2) ∷ (slot + 2) ∷ 0 ∷ []) }
+    requires slot { slot < (start_of shard.now).slots }
+    requires windows { (first ≤ window) × (window ≤ last_window) }
+    requires sound { IsSound (view pass.old) }
+    requires raised { HasRaised window (view pass.old) }
+    requires stands { HasBoth (view pass.old) slot both }
+    requires open { is_open_to window both.cell.live ≡ true }
+    ensures pass { IsPassOf shard.now pass.new × (held pass.new ≡ 0 ∷ []) × (lane_of pass.new ≡ lane_of pass.old) }
+    ensures seals { IfOk result (Seals pass.old slot first window pass.new) }
+    ensures raised { OnOk result (HasRaised window (view pass.new)) }
+    ensures below { OnOk result (AreSealedBelow window slot (view pass.old) → AreSealedBelow window (slot + 1) (view pass.new)) }
+    ensures none { OnErr result (MakesNone pass.old pass.new) }
+    ensures kept { OnErr result (KeepsDevice (view pass.old) (view pass.new)) }
+{
     match seal_in(alloc, both, first, window) {
         Ok(made) => {
             let Made {
@@ -150,6 +177,20 @@ fn seal<V: Parts<K>, K>(
     }
 }
 
+// Looks at the whole history while a series is held that needs no seal, and gives it back.
+fn pass_by<V: Parts<K>, K>(shard: &Hall<V>, pass: &mut Pass, slot: u32, cell: Cell)
+    requires pass { IsPassOf shard.now pass.old × (held pass.old ≡ (slot + 2) ∷ 0 ∷ []) }
+    requires slot { slot < (start_of shard.now).slots }
+    requires stands { HasSeries (view pass.old) slot cell }
+    ensures pass { IsPassOf shard.now pass.new × (held pass.new ≡ 0 ∷ []) × (lane_of pass.new ≡ lane_of pass.old) }
+    ensures none { SealsNone pass.old pass.new }
+    ensures raised { (window : ℕ) → HasRaised window (view pass.old) → HasRaised window (view pass.new) }
+    ensures below { (window : ℕ) → HasRaised window (view pass.old) → is_open_to window cell.live ≡ false → AreSealedBelow window slot (view pass.old) → AreSealedBelow window (slot + 1) (view pass.new) }
+{
+    let _events = shard.look(pass);
+    give_series(shard, pass, slot, cell);
+}
+
 /// Seals the series of a slot up to a window, at most 596,522, where it is there and its floor is below the window's end, by
 /// one event; and gives copies of its kept blocks of the windows `first` to `window` that have a point. Else it makes no event.
 /// The pass holds the device, and keeps it. The series is held, and for the event the journal too; the call waits for their
@@ -165,11 +206,21 @@ pub fn seal_one<V: Parts<K>, K, R: Wait>(
     slot: u32,
     first: u32,
     window: u32,
-) -> Result<Option<SealReply>, AllocError> {
+) -> Result<Option<SealReply>, AllocError>
+    requires pass { IsPassOf shard.now pass.old × (held pass.old ≡ 0 ∷ []) × (0 < left_of_pass pass.old) }
+    requires slot { slot < (start_of shard.now).slots }
+    requires windows { (first ≤ window) × (window ≤ last_window) }
+    requires raised { HasRaised window (view pass.old) }
+    ensures pass { IsPassOf shard.now pass.new × (held pass.new ≡ 0 ∷ []) × (lane_of pass.new ≡ lane_of pass.old) }
+    ensures seals { IfOk result (SealsIfOpen pass.old slot first window pass.new) }
+    ensures raised { OnOk result (HasRaised window (view pass.new)) }
+    ensures below { OnOk result (AreSealedBelow window slot (view pass.old) → AreSealedBelow window (slot + 1) (view pass.new)) }
+    ensures none { OnErr result (MakesNone pass.old pass.new) }
+    ensures kept { OnErr result (KeepsDevice (view pass.old) (view pass.new)) }
+{
     let cell = take_series(rt, shard, pass, slot);
     if !is_open(&cell, window) {
-        let _events = shard.look(pass);
-        give_series(shard, pass, slot, cell);
+        pass_by(shard, pass, slot, cell);
         return Ok(None);
     }
     let journal = take_journal(rt, shard, pass);
