@@ -21,7 +21,7 @@ use Rattle.gor_model.proofs.EventLaws.{floor_answered, floor_touched}
 use Rattle.gor_model.proofs.NumberedLaws.{device_at, directory_at, journal_at, floor_leaves, floor_device, floor_directory, floor_journal}
 use Rattle.gor_rule.specs.declared.view.View.{View}
 use Rattle.gor_rule.specs.Plays.{gave}
-use Rattle.gor_hall.specs.Steps.{HasMarked}
+use Rattle.gor_hall.specs.Steps.{HasMarked, AllBelow}
 use Rattle.gor_dir.specs.Listings.{shown}
 use Rattle.gor_journal.specs.Stands as log
 use Rattle.gor_steps.specs.declared.wide.Wide.{Wide}
@@ -77,7 +77,7 @@ module _ (v : View) (sound : IsSound v) (lane window : ℕ) (wide : Wide) (stand
   by_told : (b : FloorAnswer) → FloorTold window wide b → floor_by (device_of v) journal window ≡ floor_reply b
   by_told (answer.Floor floor) t =
       let runs : journal.stopped ≡ false = stopped_is ∙ t.1 in
-      let above : nat_le (window_end window) (device_of v).floor ≡ false = ap (nat_le (window_end window)) floor_is ∙ lt-leb (shown wide.directory).floor (window_end window) t.2 in
+      let above : nat_le (window_end window) (device_of v).floor ≡ false = ap (nat_le (window_end window)) floor_is ∙ lt-leb (window_end window) (shown wide.directory).floor t.2 in
       ap (λ (x : Bool). unless_by x (if nat_le (window_end window) (device_of v).floor then reply.Sealed (device_of v).floor else reply.Floor (window_end window))) runs
       ∙ (ap (λ (x : Bool). if x then reply.Sealed (device_of v).floor else reply.Floor (window_end window)) above ∙ ap reply.Floor (sym t.0))
   by_told (answer.Sealed floor) t =
@@ -123,13 +123,6 @@ module _ (v : View) (sound : IsSound v) (lane window : ℕ) (wide : Wide) (stand
         by (answer.Sealed floor) q t = (t.0 ∙ sym floor_is, stopped_is ∙ t.1, subst (λ (f : ℕ). window_end window ≤ f) (sym floor_is) t.2, same ∙ device_then)
         by answer.Stopped q t = (stopped_is ∙ t, same ∙ device_then)
 
-      pub quiet_raised : (x : View) → RaisesIfFloor window a x
-      quiet_raised x = by a quiet where
-        by : (b : FloorAnswer) → IsQuietFloor b → RaisesIfFloor window b x
-        by (answer.Floor floor) q = absurd q
-        by (answer.Sealed floor) q = tt
-        by answer.Stopped q = tt
-
 -- a Floor that rises
 module _ (v : View) (sound : IsSound v) (lane window floor : ℕ) (wide new : Wide) (stands : HasWide v wide) (told : FloorTold window wide (answer.Floor floor))
     (w : View) (n : ℕ) (m : HasMarked v (floor_event lane window (answer.Floor floor)) n w) where
@@ -166,18 +159,3 @@ module _ (v : View) (sound : IsSound v) (lane window floor : ℕ) (wide new : Wi
     subst (λ (f : ℕ). f < window_end window) (sym (floor_is v sound lane window wide stands (answer.Floor floor) told)) told.2,
     same ∙ device_now,
   )
-
-  reached_now : window_end window ≤ shard_floor w.start (changes w.seen)
-  reached_now = subst (λ (z : View). window_end window ≤ shard_floor z.start (changes z.seen)) (sym m.2) (top (shard_floor v.start (changes m.0)) (window_end window)) where
-    top : (a b : ℕ) → b ≤ max a b
-    top a b = omega arith
-
-  pub raised_now : (x : View) → x.start ≡ w.start → x.seen ≡ w.seen → KeepsDevice w x → HasRaised window x
-  raised_now x start seen same =
-      let now = same ∙ device_now in record {
-        runs = ap (λ (d : DeviceShare). d.stopped) now ∙ stopped_was;
-        reached = subst (λ (d : DeviceShare). window_end window ≤ d.floor) (sym now) (top (device_of v).floor (window_end window));
-        seen = subst (λ (z : Start × History). window_end window ≤ shard_floor z.0 (changes z.1)) (λ i. (sym start i, sym seen i)) reached_now;
-      } where
-    top : (a b : ℕ) → b ≤ max a b
-    top a b = omega arith

@@ -22,11 +22,11 @@ use Rattle.gor_model.proofs.NumberedLaws.{device_at, journal_at, seal_series, se
 use Rattle.gor_model.proofs.ObjectLaws.{slots as slots_fit_at}
 use Rattle.gor_rule.specs.Rule.{numbers}
 use Rattle.gor_rule.specs.declared.view.View.{View}
-use Rattle.gor_rule.specs.Plays.{gave}
+use Rattle.gor_rule.specs.Plays.{gave, without}
 use Rattle.gor_rule.proofs.Numbers.{beginning_trans}
-use Rattle.gor_hall.specs.Steps.{HasMarked, HasLooked}
+use Rattle.gor_hall.specs.Steps.{HasMarked, HasLooked, AllBelow}
 use Rattle.gor_hall.specs.declared.pass.Pass.{Pass}
-use Rattle.gor_hall.specs.Passes.{view}
+use Rattle.gor_hall.specs.Passes.{view, lane_of, left_of_pass}
 use Rattle.gor_block.specs.PointBlock.{PointBlock}
 use Rattle.gor_cell.specs.declared.cell.Cell.{Cell}
 use Rattle.gor_cell.specs.Packed.{Packed, points_of}
@@ -35,14 +35,15 @@ use Rattle.gor_cell.specs.Steps.{ArePieces, after_seal}
 use Rattle.gor_journal.specs.Stands as journals
 use Rattle.gor_steps.specs.declared.held.Both.{Both}
 use Rattle.gor_steps.specs.declared.seals.Made.{Made}
-use Rattle.gor_steps.specs.Finishes.{AreSealed, AreSealedBelow, HasRaised, KeepsDevice, SealsIn, device_of, is_open_to, seal_event}
+use Rattle.gor_steps.specs.declared.seals.SealReply.{SealReply}
+use Rattle.gor_steps.specs.Finishes.{AreSealed, AreSealedBelow, HasRaised, KeepsDevice, Seals, SealsNone, SealsIn, device_of, is_open_to, seal_event}
 use Rattle.gor_steps.specs.Puts.{HasBoth}
 use Rattle.gor_steps.specs.Views.{HasSeries, HasJournal, HasNone, HasEvent, IsSound, SeesMore}
 use Rattle.gor_steps.proofs.FinishLaws.{device_after, device_stays}
 use Rattle.gor_steps.proofs.ReadLaws.{MayBe}
 use Rattle.gor_steps.proofs.SealedLaws.{sealed_later, sealed_one, floor_later}
 use Rattle.gor_steps.proofs.Uids.{slot_number}
-use Rattle.gor_steps.proofs.ViewLaws.{IsRowOf, row_here, marked_start, series_after, journal_after, series_stays}
+use Rattle.gor_steps.proofs.ViewLaws.{IsRowOf, row_here, marked_start, series_after, journal_after, series_stays, same_one, differ}
 
 -- ---- what goes on from one view to another
 
@@ -265,3 +266,60 @@ module _ (v w : View) (is : IsStart v.start) (slot n : ℕ) (low : slot < v.star
       subst (λ (z : Start × History). IfSome (series_share z.0 z.1 slot) (λ s. window_end window ≤ s.row.floor)) (λ i. (look_start i, look_at i)) (closed_share window c.live (series_share w.start w.at slot) look_series closed) in
       subst (λ (z : Start × History). AreSealed z.0 (changes z.1) window (slot + 1)) (λ i. (sym look_start i, sym look_seen i))
       (sealed_one v.start is looked.0 looked.3 window slot so (sealed_later v.start window slot v.seen looked.0 looked.1.1 looked.3 r.seen are))
+
+-- ---- gives
+
+pub both_given : (slots slot : ℕ) → slot < slots → without (slot + 2) (without (slots + 2) ((slots + 2) ∷ (slot + 2) ∷ 0 ∷ [])) ≡ 0 ∷ []
+both_given slots slot low =
+    let a = same_one (slots + 2) in let b = differ (slot + 2) (slots + 2) (λ e. omega arith) in let c = differ 0 (slots + 2) (λ e. omega arith) in
+    let d = same_one (slot + 2) in let e = differ 0 (slot + 2) (λ e. omega arith) in
+    rw (a, b, c) (rw (d, e) refl)
+
+pub one_given : (slot : ℕ) → without (slot + 2) ((slot + 2) ∷ 0 ∷ []) ≡ 0 ∷ []
+one_given slot = let a = same_one (slot + 2) in let b = differ 0 (slot + 2) (λ e. omega arith) in rw (a, b) refl
+
+pub below_series : AllBelow 2 (0 ∷ [])
+below_series o (inl is) = omega (arith, is)
+below_series o (inr none) = absurd none
+
+pub below_log : (slots slot : ℕ) → slot < slots → AllBelow (slots + 2) ((slot + 2) ∷ 0 ∷ [])
+below_log slots slot low o (inl is) = omega (arith, is, low)
+below_log slots slot low o (inr (inl is)) = omega (arith, is)
+below_log slots slot low o (inr (inr none)) = absurd none
+
+pub device_gave_one : (w x : View) (o : ℕ) → x ≡ gave w o → KeepsDevice w x
+device_gave_one w x o is = ap (λ (z : View). device_of z) is
+
+pub more_gave : (v w x : View) (o : ℕ) → x ≡ gave w o → SeesMore v w → SeesMore v x
+more_gave v w x o is m = subst (SeesMore v) (sym is) (record { start = m.start; begins = m.begins; legal = m.legal; mine = m.mine; own = m.own })
+
+-- ---- from the view before a take
+
+pub seals_from : (old mid new : Pass) (slot first window : ℕ) (r : SealReply) → HasNone (view old) (view mid) → lane_of mid ≡ lane_of old → left_of_pass mid ≡ left_of_pass old → KeepsDevice (view old) (view mid)
+    → Seals mid slot first window new r → Seals old slot first window new r
+seals_from old mid new slot first window r none lane left device s = record {
+  event = event_from (view old) (view mid) (view new) r.number (seal_event (lane_of old) slot r.name window) none
+      (subst (λ (l : ℕ). HasEvent (view mid) r.number (seal_event l slot r.name window) (view new)) lane s.event);
+  left = s.left ∙ left;
+  series = s.series;
+  slot_is = s.slot_is;
+  uid_is = s.uid_is;
+  device = s.device ∙ ap (device_sealed s.series) device;
+  pieces = s.pieces;
+}
+
+pub none_from : (old mid new : Pass) → HasNone (view old) (view mid) → (view mid).lane ≡ (view old).lane → left_of_pass mid ≡ left_of_pass old → KeepsDevice (view old) (view mid) → SealsNone mid new → SealsNone old new
+none_from old mid new none lane left device s = record {
+  more = record {
+    start = s.more.start ∙ none.start;
+    begins = subst (λ (h : History). IsBeginning h (view new).seen) none.seen s.more.begins;
+    legal = s.more.legal;
+    mine = s.more.mine ∙ none.mine;
+    own = λ l is. s.more.own l (lane ∙ is) ∙ none.mine;
+  };
+  left = s.left ∙ left;
+  device = s.device ∙ device;
+}
+
+pub none_on : (u v w : View) → HasNone u v → HasNone v w → HasNone u w
+none_on u v w a b = record { start = b.start ∙ a.start; seen = b.seen ∙ a.seen; mine = b.mine ∙ a.mine }

@@ -167,13 +167,13 @@ no_share (Some s) stands = absurd stands
 
 -- ---- all three given back, one after another
 
-same_one : (a : ℕ) → (a == a) ≡ true
+pub same_one : (a : ℕ) → (a == a) ≡ true
 same_one a = by (eqb_tells a a) where
   by : ((a == a ≡ true) × (a ≡ a)) ⊎ ((a == a ≡ false) × (a ≢ a)) → (a == a) ≡ true
   by (inl same) = same.0
   by (inr apart) = absurd (apart.1 refl)
 
-differ : (a b : ℕ) → a ≢ b → (a == b) ≡ false
+pub differ : (a b : ℕ) → a ≢ b → (a == b) ≡ false
 differ a b apart = by (eqb_tells a b) where
   by : ((a == b ≡ true) × (a ≡ b)) ⊎ ((a == b ≡ false) × (a ≢ b)) → (a == b) ≡ false
   by (inl same) = absurd (apart same.1)
