@@ -1,9 +1,10 @@
 -- The Seal of one series by a finish, by what its pass holds.
 use Rattle.std.proofs.Common.{◌≡◌, ℕ, ◌+◌, ◌<◌, ◌≤◌, [], ◌∷◌, ◌++◌, List, Bool, true, false, Option, Some, None, refl, sym, ap, ◌∙◌, subst, inl, inr, arith, max}
-use Rattle.std.specs.Prelude.{IfSome, IsFalse, nat_lt}
+use Rattle.std.specs.Prelude.{IfSome, IsFalse, nat_lt, Result, Ok, Err, OnErr}
 use Rattle.std.proofs.lemmas.Bool.{ltb-true, ltb-false}
 use Rattle.gor_model.specs.declared.event.Change.TheVariants as change
 use Rattle.gor_model.specs.declared.event.Event.{Event}
+use Rattle.gor_model.specs.declared.point.Point.{Point}
 use Rattle.gor_model.specs.declared.start.Row.{Row}
 use Rattle.gor_model.specs.declared.start.Start.{Start}
 use Rattle.gor_model.specs.Answers.{IsAnswered, Legal}
@@ -27,7 +28,6 @@ use Rattle.gor_rule.proofs.Numbers.{beginning_trans}
 use Rattle.gor_hall.specs.Steps.{HasMarked, HasLooked, AllBelow}
 use Rattle.gor_hall.specs.declared.pass.Pass.{Pass}
 use Rattle.gor_hall.specs.Passes.{view, lane_of, left_of_pass}
-use Rattle.gor_block.specs.PointBlock.{PointBlock}
 use Rattle.gor_cell.specs.declared.cell.Cell.{Cell}
 use Rattle.gor_cell.specs.Packed.{Packed, points_of}
 use Rattle.gor_cell.specs.Stands as cells
@@ -79,7 +79,7 @@ pub record IsOpenRow (v : View) (slot window : ℕ) (live : Option Packed) : Typ
   pub under : row.floor < window_end window
 
 pub open_row : (v : View) (slot window : ℕ) (c : Cell) → HasSeries v slot c → is_open_to window c.live ≡ true → IsOpenRow v slot window c.live
-open_row v slot window c stands open = at c.live (series_share v.start v.at slot) refl stands open where
+open_row v slot window c stands below = at c.live (series_share v.start v.at slot) refl stands below where
   at : (live : Option Packed) (share : Option SeriesShare) → series_share v.start v.at slot ≡ share → cells.Stands live share → is_open_to window live ≡ true → IsOpenRow v slot window live
   at None share is st o = absurd (let wrong : false ≡ true = o in cc)
   at (Some s) None is st o = absurd st
@@ -102,9 +102,9 @@ pub shows : (live : Option Packed) (share : SeriesShare) (name : List ℕ) (uid 
 shows None share name uid st is = absurd st
 shows (Some s) share name uid st is = (is.0 ∙ sym st.name, is.1 ∙ sym st.uid)
 
-pieces_of : (first window : ℕ) (blocks : List PointBlock) (live : Option Packed) (share : SeriesShare) → cells.Stands live (Some share) → IfSome live (λ s. ArePieces first window (points_of s) blocks) → ArePieces first window share.row.points blocks
-pieces_of first window blocks None share st are = absurd st
-pieces_of first window blocks (Some s) share st are = subst (λ ps. ArePieces first window ps blocks) (sym st.points) are
+points_by : (P : List Point → Type 0) (live : Option Packed) (share : SeriesShare) → cells.Stands live (Some share) → IfSome live (λ s. P (points_of s)) → P share.row.points
+points_by P None share st are = absurd st
+points_by P (Some s) share st are = subst P (sym st.points) are
 
 pub uid_number : (v : View) → IsSound v → (slot window : ℕ) (live : Option Packed) → IsOpenRow v slot window live → IfSome live (λ s. IsNumber s.uid)
 uid_number v sound slot window live o = at live o.stands where
@@ -165,7 +165,7 @@ module _ (v : View) (sound : IsSound v) (lane slot first window : ℕ) (both : B
     journal_then = journal_after v w e n m stands.held_journal (journal_with (change.Seal key window) (OfSeries row.uid) (journal_share v.start v.at))
         (seal_journal v.start sound.start v.at sound.legal lane slot key row.name window row stands.low at_slot (journal_share v.start v.at) (journal_at v.start v.at))
 
-    pub sealed_series : SealedSeries
+    abbrev pub sealed_series : SealedSeries
     sealed_series = sealed_row (sealed_to (window_end window) row)
 
     pub device_then : device_of w ≡ device_sealed sealed_series (device_of v)
@@ -192,7 +192,7 @@ module _ (v : View) (sound : IsSound v) (lane slot first window : ℕ) (both : B
     uid_is = sym told.1
 
     pub pieces : ArePieces first window sealed_series.points made.sealed.blocks.items
-    pieces = pieces_of first window made.sealed.blocks.items made.both.cell.live (after_seal window share) (seals.cell share o.stands) seals.pieces
+    pieces = points_by (λ ps. ArePieces first window ps made.sealed.blocks.items) made.both.cell.live (after_seal window share) (seals.cell share o.stands) seals.pieces
 
     -- ---- what has been seen
 
@@ -275,18 +275,6 @@ both_given slots slot low =
     let d = same_one (slot + 2) in let e = differ 0 (slot + 2) (λ e. omega arith) in
     rw (a, b, c) (rw (d, e) refl)
 
-pub one_given : (slot : ℕ) → without (slot + 2) ((slot + 2) ∷ 0 ∷ []) ≡ 0 ∷ []
-one_given slot = let a = same_one (slot + 2) in let b = differ 0 (slot + 2) (λ e. omega arith) in rw (a, b) refl
-
-pub below_series : AllBelow 2 (0 ∷ [])
-below_series o (inl is) = omega (arith, is)
-below_series o (inr none) = absurd none
-
-pub below_log : (slots slot : ℕ) → slot < slots → AllBelow (slots + 2) ((slot + 2) ∷ 0 ∷ [])
-below_log slots slot low o (inl is) = omega (arith, is, low)
-below_log slots slot low o (inr (inl is)) = omega (arith, is)
-below_log slots slot low o (inr (inr none)) = absurd none
-
 pub device_gave_one : (w x : View) (o : ℕ) → x ≡ gave w o → KeepsDevice w x
 device_gave_one w x o is = ap (λ (z : View). device_of z) is
 
@@ -323,3 +311,9 @@ none_from old mid new none lane left device s = record {
 
 pub none_on : (u v w : View) → HasNone u v → HasNone v w → HasNone u w
 none_on u v w a b = record { start = b.start ∙ a.start; seen = b.seen ∙ a.seen; mine = b.mine ∙ a.mine }
+
+-- ---- answers
+
+pub on_err : {A B P : Type 0} (r : Result A B) → P → OnErr r P
+on_err (Ok a) p = tt
+on_err (Err e) p = p
