@@ -27,16 +27,7 @@ fn seal_window<D: Disk, R: Wait>(
 ) -> Result<FinishEnd, AllocError> {
     let mut blocks = SlabWriter::new(alloc, Unit::of_the_store());
     let first = first_window(&device.list);
-    seal_all(
-        rt,
-        alloc,
-        shard,
-        pass,
-        first,
-        window,
-        &mut blocks,
-        steps,
-    )?;
+    seal_all(rt, alloc, shard, pass, first, window, &mut blocks, steps)?;
     steps.reserve(2)?;
     let file = blocks.finish()?;
     match write_blocks(&mut device.disk, window, &file) {

@@ -29,10 +29,7 @@ fn state_of(found: &Recovered) -> Option<u32> {
         [a, b]
             if found.floor == 7200
                 && is_row(a, "a", 7200, &[10, 20])
-                && is_row(b, "b", 7200, &[7300]) =>
-        {
-            Some(2)
-        }
+                && is_row(b, "b", 7200, &[7300]) => { Some(2) }
         _ => None,
     }
 }
@@ -159,10 +156,10 @@ fn most_at(moment: u64, flush: u64, finish: u64) -> u32 {
     }
 }
 
-/// Whether each image of each moment has a state that it may have. The calls are counted as the flush and the finish began,
-/// and as they were answered.
-fn all_hold(alloc: Global, disk: &MemoryDisk, began: [u64; 2], ended: [u64; 2]) -> bool {
-    for moment in 0..disk.calls().len() as u64 + 1 {
+/// Whether each image of each moment from one on has a state that it may have. The calls are counted as the flush and the
+/// finish began, and as they were answered.
+fn all_hold(alloc: Global, disk: &MemoryDisk, from: u64, began: [u64; 2], ended: [u64; 2]) -> bool {
+    for moment in from..disk.calls().len() as u64 + 1 {
         let least = least_at(moment, ended[0], ended[1]);
         let most = most_at(moment, began[0], began[1]);
         if !images_hold(alloc, disk, moment, least, most) {
@@ -197,13 +194,14 @@ fn images_hold_where_nothing_fails(rt: HostRuntime) -> Result<(), Fail> {
     let run = make_run(&rt, alloc, MemoryDisk::new(alloc), Far::Finish)?;
     let finished = run.disk.calls().len() as u64;
     assert!(rt; run.flushed && run.finished == Some(FinishEnd::Done) && !run.stopped);
-    assert!(rt; all_hold(alloc, &run.disk, [opened, flushed], [flushed, finished]));
+    assert!(rt; all_hold(alloc, &run.disk, 0, [opened, flushed], [flushed, finished]));
     for choice in 0..4 {
         assert!(rt; goes_on(&rt, alloc, &run.disk, choice)?);
     }
     Ok(())
 }
 
+// The moments before the call that fails are those of the test above.
 #[test]
 fn each_call_of_the_disk_may_fail(rt: HostRuntime) -> Result<(), Fail> {
     let alloc = rt.alloc();
@@ -221,8 +219,14 @@ fn each_call_of_the_disk_may_fail(rt: HostRuntime) -> Result<(), Fail> {
         };
         assert!(rt; run.flushed == (place >= flushed), "call {place}");
         assert!(rt; run.finished == Some(end), "call {place}");
-        assert!(rt; run.stopped && run.disk.calls().len() as u64 == place + 1, "call {place}");
-        assert!(rt; all_hold(alloc, &run.disk, [opened, flushed], ended), "call {place}");
+        assert!(rt;
+            run.stopped && run.disk.calls().len() as u64 == place + 1,
+            "call {place}"
+        );
+        assert!(rt;
+            all_hold(alloc, &run.disk, place, [opened, flushed], ended),
+            "call {place}"
+        );
         for choice in 0..4 {
             assert!(rt; goes_on(&rt, alloc, &run.disk, choice)?, "call {place}");
         }

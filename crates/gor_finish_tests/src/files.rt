@@ -92,8 +92,8 @@ const WORKED_FILES: [(FileId, u64, &[u8], u64); 8] = [
         FileId::Marks,
         19,
         &[
-            1, 0, 0, 0, 0, 0, 0, 0, 22, 1, 2, 0, 3, 6, 73, 0, 0, 0, 1, 0, 0, 0, 0, 0, 0, 0, 5, 0, 0,
-            0, 1, 0,
+            1, 0, 0, 0, 0, 0, 0, 0, 22, 1, 2, 0, 3, 6, 73, 0, 0, 0, 1, 0, 0, 0, 0, 0, 0, 0, 5, 0,
+            0, 0, 1, 0,
         ],
         51,
     ),
@@ -122,7 +122,10 @@ fn the_worked_store_has_its_files(rt: HostRuntime) -> Result<(), Fail> {
     )?;
     for (place, (file, at, want, len)) in WORKED_FILES.iter().enumerate() {
         assert!(rt; has_len(&mut disk, *file, *len), "length, row {place}");
-        assert!(rt; has_at(rt.alloc(), &mut disk, *file, *at, want)?, "bytes, row {place}");
+        assert!(rt;
+            has_at(rt.alloc(), &mut disk, *file, *at, want)?,
+            "bytes, row {place}"
+        );
     }
     Ok(())
 }

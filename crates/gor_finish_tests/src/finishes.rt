@@ -30,7 +30,11 @@ const CASES: [(&str, &[Step], &[Step]); 7] = [
         ],
         &[
             Step::Get("web01.cpu", &[1427162462, 1427162522, 1427162582]),
-            Step::Put("web01.cpu", 1427169599, PutAnswer::Closed { floor: 1427169600 }),
+            Step::Put(
+                "web01.cpu",
+                1427169599,
+                PutAnswer::Closed { floor: 1427169600 },
+            ),
             Step::Put("new", 1427169599, PutAnswer::Closed { floor: 1427169600 }),
             Step::Put("web01.cpu", 1427169600, STORED),
         ],
@@ -237,7 +241,11 @@ fn run<R: Wait>(
 fn finishes_are_answered_and_restarted(rt: HostRuntime) -> Result<(), Fail> {
     for (case, steps, again) in CASES {
         let wrong = run(&rt, rt.alloc(), steps, again)?;
-        assert_eq!(rt; wrong, None, "{case}: the place of the step that was answered otherwise");
+        assert_eq!(rt;
+            wrong,
+            None,
+            "{case}: the place of the step that was answered otherwise"
+        );
     }
     Ok(())
 }

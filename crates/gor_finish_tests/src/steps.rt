@@ -147,9 +147,11 @@ fn finishes<R: Wait>(
 ) -> Result<bool, NoAnswer> {
     let first = made(pass);
     match finish(rt, alloc, shard, pass, window) {
-        Ok(reply) => Ok(reply.how == how
-            && are_told(&reply.steps, first, told)
-            && made(pass) == first + told.len() as u64),
+        Ok(reply) => Ok(
+            reply.how == how
+                && are_told(&reply.steps, first, told)
+                && made(pass) == first + told.len() as u64,
+        ),
         Err(_) => Err(NoAnswer),
     }
 }

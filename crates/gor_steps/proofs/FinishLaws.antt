@@ -1,6 +1,6 @@
 -- The Floor of a finish, by what its pass holds.
-use Rattle.std.proofs.Common.{◌≡◌, ℕ, ◌+◌, ◌<◌, ◌≤◌, [], ◌∷◌, List, Bool, true, false, Option, Some, None, refl, sym, ap, ◌∙◌, subst, inl, inr, arith, max}
-use Rattle.std.specs.Prelude.{nat_le, if◌then◌else◌, ⊤}
+use Rattle.std.proofs.Common.{◌≡◌, ℕ, ◌+◌, ◌<◌, ◌≤◌, [], ◌∷◌, List, Bool, true, false, None, refl, sym, ap, ◌∙◌, subst, inl, inr}
+use Rattle.std.specs.Prelude.{nat_le, if◌then◌else◌}
 use Rattle.std.proofs.lemmas.Bool.{le-leb, lt-leb}
 use Rattle.gor_model.specs.declared.event.Call.TheVariants as call
 use Rattle.gor_model.specs.declared.event.Change.TheVariants as change
@@ -10,10 +10,8 @@ use Rattle.gor_model.specs.declared.event.Reply.TheVariants as reply
 use Rattle.gor_model.specs.declared.start.Start.{Start}
 use Rattle.gor_model.specs.Answers.{IsAnswered}
 use Rattle.gor_model.specs.AnswersByShares.{floor_by, unless_by}
-use Rattle.gor_model.specs.Changes.{History, changes}
 use Rattle.gor_model.specs.Objects.{Has, share_of}
-use Rattle.gor_model.specs.PlainMap.{shard_floor}
-use Rattle.gor_model.specs.Shares.{DeviceShare, DirectoryShare, JournalShare, OfDevice, Nothing, device_share, directory_share, journal_share}
+use Rattle.gor_model.specs.Shares.{DeviceShare, DirectoryShare, JournalShare, OfDevice, Nothing, directory_share, journal_share}
 use Rattle.gor_model.specs.SharesAfter.{device_raised, directory_raised, journal_with}
 use Rattle.gor_model.specs.Windows.{window_end}
 use Rattle.gor_model.proofs.AgreeLaws.{same_device}
@@ -21,14 +19,14 @@ use Rattle.gor_model.proofs.EventLaws.{floor_answered, floor_touched}
 use Rattle.gor_model.proofs.NumberedLaws.{device_at, directory_at, journal_at, floor_leaves, floor_device, floor_directory, floor_journal}
 use Rattle.gor_rule.specs.declared.view.View.{View}
 use Rattle.gor_rule.specs.Plays.{gave}
-use Rattle.gor_hall.specs.Steps.{HasMarked, AllBelow}
+use Rattle.gor_hall.specs.Steps.{HasMarked}
 use Rattle.gor_dir.specs.Listings.{shown}
 use Rattle.gor_journal.specs.Stands as log
 use Rattle.gor_steps.specs.declared.wide.Wide.{Wide}
 use Rattle.gor_steps.specs.declared.floors.FloorAnswer.{FloorAnswer}
 use Rattle.gor_steps.specs.declared.floors.FloorAnswer.TheVariants as answer
-use Rattle.gor_steps.specs.Finishes.{HasWide, KeepsDevice, FloorTold, FloorsDevice, IsQuietFloor, HasRaised, RaisesIfFloor, device_of, floor_reply, floor_event}
-use Rattle.gor_steps.specs.Views.{HasDirectory, HasJournal, IsSound}
+use Rattle.gor_steps.specs.Finishes.{HasWide, KeepsDevice, FloorTold, FloorsDevice, IsQuietFloor, device_of, floor_reply, floor_event}
+use Rattle.gor_steps.specs.Views.{IsSound}
 use Rattle.gor_steps.proofs.ReadLaws.{MayBe}
 use Rattle.gor_steps.proofs.ViewLaws.{marked_start, marked_share, directory_after, journal_after, directory_on, journal_on}
 

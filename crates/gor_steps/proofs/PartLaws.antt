@@ -1,9 +1,8 @@
 -- A value that stands for the share of an object is of that object's kind.
-use Rattle.std.proofs.Common.{◌≡◌, ℕ, ◌+◌, ◌<◌, refl, sym, ap, ◌∙◌, subst}
-use Rattle.std.specs.Prelude.{Option}
+use Rattle.std.proofs.Common.{◌≡◌, ℕ, ◌+◌, ◌<◌, sym, ap, ◌∙◌, subst}
 use Rattle.gor_model.specs.declared.start.Start.{Start}
 use Rattle.gor_model.specs.Changes.{History}
-use Rattle.gor_model.specs.Shares.{Share, OfDirectory, OfSlot, OfJournal, DirectoryShare, SeriesShare, JournalShare, directory_share, series_share, journal_share}
+use Rattle.gor_model.specs.Shares.{Share, OfDirectory, OfSlot, OfJournal, directory_share, series_share, journal_share}
 use Rattle.gor_model.specs.Objects.{share_of}
 use Rattle.gor_model.specs.Starts.{IsStart}
 use Rattle.gor_model.proofs.NumberedLaws.{directory_at, series_at, journal_at}

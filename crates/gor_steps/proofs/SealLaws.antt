@@ -1,19 +1,19 @@
 -- The Seal of one series by a finish, by what its pass holds.
-use Rattle.std.proofs.Common.{◌≡◌, ℕ, ◌+◌, ◌<◌, ◌≤◌, [], ◌∷◌, ◌++◌, List, Bool, true, false, Option, Some, None, refl, sym, ap, ◌∙◌, subst, inl, inr, arith, max}
-use Rattle.std.specs.Prelude.{IfSome, IsFalse, nat_lt, Result, Ok, Err, OnErr}
+use Rattle.std.proofs.Common.{◌≡◌, ℕ, ◌+◌, ◌<◌, ◌≤◌, [], ◌∷◌, List, true, false, Option, Some, None, refl, sym, ap, ◌∙◌, subst, inl, inr, arith, max}
+use Rattle.std.specs.Prelude.{IfSome, IsFalse, Result, Ok, Err, OnErr}
 use Rattle.std.proofs.lemmas.Bool.{ltb-true, ltb-false}
 use Rattle.gor_model.specs.declared.event.Change.TheVariants as change
 use Rattle.gor_model.specs.declared.event.Event.{Event}
 use Rattle.gor_model.specs.declared.point.Point.{Point}
 use Rattle.gor_model.specs.declared.start.Row.{Row}
 use Rattle.gor_model.specs.declared.start.Start.{Start}
-use Rattle.gor_model.specs.Answers.{IsAnswered, Legal}
+use Rattle.gor_model.specs.Answers.{Legal}
 use Rattle.gor_model.specs.Changes.{History, changes}
 use Rattle.gor_model.specs.Fields.{IsNumber}
 use Rattle.gor_model.specs.Names.{key_of}
 use Rattle.gor_model.specs.Objects.{Has, IsBeginning, share_of}
 use Rattle.gor_model.specs.PlainMap.{shard_floor}
-use Rattle.gor_model.specs.Shares.{DeviceShare, JournalShare, SeriesShare, SealedSeries, OfSeries, sealed_row, device_share, journal_share, series_share}
+use Rattle.gor_model.specs.Shares.{DeviceShare, SeriesShare, SealedSeries, OfSeries, sealed_row, journal_share, series_share}
 use Rattle.gor_model.specs.SharesAfter.{device_sealed, journal_with, sealed_to}
 use Rattle.gor_model.specs.Starts.{IsStart}
 use Rattle.gor_model.specs.Windows.{window_end}
@@ -25,7 +25,7 @@ use Rattle.gor_rule.specs.Rule.{numbers}
 use Rattle.gor_rule.specs.declared.view.View.{View}
 use Rattle.gor_rule.specs.Plays.{gave, without}
 use Rattle.gor_rule.proofs.Numbers.{beginning_trans}
-use Rattle.gor_hall.specs.Steps.{HasMarked, HasLooked, AllBelow}
+use Rattle.gor_hall.specs.Steps.{HasMarked, HasLooked}
 use Rattle.gor_hall.specs.declared.pass.Pass.{Pass}
 use Rattle.gor_hall.specs.Passes.{view, lane_of, left_of_pass}
 use Rattle.gor_cell.specs.declared.cell.Cell.{Cell}
@@ -38,7 +38,7 @@ use Rattle.gor_steps.specs.declared.seals.Made.{Made}
 use Rattle.gor_steps.specs.declared.seals.SealReply.{SealReply}
 use Rattle.gor_steps.specs.Finishes.{AreSealed, AreSealedBelow, HasRaised, KeepsDevice, Seals, SealsNone, SealsIn, device_of, is_open_to, seal_event}
 use Rattle.gor_steps.specs.Puts.{HasBoth}
-use Rattle.gor_steps.specs.Views.{HasSeries, HasJournal, HasNone, HasEvent, IsSound, SeesMore}
+use Rattle.gor_steps.specs.Views.{HasSeries, HasNone, HasEvent, IsSound, SeesMore}
 use Rattle.gor_steps.proofs.FinishLaws.{device_after, device_stays}
 use Rattle.gor_steps.proofs.ReadLaws.{MayBe}
 use Rattle.gor_steps.proofs.SealedLaws.{sealed_later, sealed_one, floor_later}

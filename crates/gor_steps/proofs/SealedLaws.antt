@@ -1,18 +1,17 @@
 -- A series that is sealed up to a window stays so, and one that begins once the shard's floor has reached its end is so.
-use Rattle.std.proofs.Common.{◌≡◌, ℕ, ◌+◌, ◌<◌, ◌≤◌, [], ◌∷◌, ◌++◌, List, Bool, true, false, Option, Some, None, refl, sym, ap, ◌∙◌, subst, ◌⊎◌, inl, inr, ⊎_elim, arith, max}
+use Rattle.std.proofs.Common.{◌≡◌, ℕ, ◌+◌, ◌<◌, ◌≤◌, [], ◌∷◌, ◌++◌, List, Bool, true, false, Option, Some, None, refl, sym, ◌∙◌, subst, ◌⊎◌, inl, inr, ⊎_elim, arith, max}
 use Rattle.std.specs.Prelude.{IfSome, option_map, unwrap_or, if◌then◌else◌}
 use Rattle.std.specs.List.{cons_option}
 use Rattle.std.specs.Str.{bytes_eq}
 use Rattle.std.proofs.lemmas.Bool.{cases_lt}
 use Rattle.gor_model.specs.declared.event.Change.{Change}
 use Rattle.gor_model.specs.declared.event.Change.TheVariants.{Put, Del, Floor, Seal}
-use Rattle.gor_model.specs.declared.event.Event.{Event}
 use Rattle.gor_model.specs.declared.start.Row.{Row}
 use Rattle.gor_model.specs.declared.start.Start.{Start}
 use Rattle.gor_model.specs.Answers.{Legal}
 use Rattle.gor_model.specs.Changes.{History, changed, changes}
 use Rattle.gor_model.specs.Objects.{IsBeginning}
-use Rattle.gor_model.specs.PlainMap.{greatest, raised, shard_floor, begun_row, row_after, with_kept}
+use Rattle.gor_model.specs.PlainMap.{shard_floor, begun_row, row_after, with_kept}
 use Rattle.gor_model.specs.Shares.{SeriesShare, series_share}
 use Rattle.gor_model.specs.Starts.{IsStart}
 use Rattle.gor_model.specs.Windows.{window_end}
@@ -63,6 +62,7 @@ module _ (start : Start) (window slot : ℕ) where
   more C reached key (Seal k w) row so = at (bytes_eq key k) row so where
     above : (a b : ℕ) → window_end window ≤ a → window_end window ≤ max a b
     above a b less = let e = window_end window in omega arith
+
     at : (b : Bool) (row : Option Row) → IfSome row IsSo → IfSome (if b then option_map (raised_to (window_end w)) row else row) IsSo
     at true None so = tt
     at true (Some r) so = λ low. above r.floor (window_end w) (so low)

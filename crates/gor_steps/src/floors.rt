@@ -203,12 +203,6 @@ pub fn make_floor<V: Parts<K>, K, R: Wait>(
             let answer = FloorAnswer::Sealed { floor };
             Ok(refuse_floor(shard, pass, wide, window, answer))
         }
-        FloorAnswer::Stopped => Ok(refuse_floor(
-            shard,
-            pass,
-            wide,
-            window,
-            FloorAnswer::Stopped,
-        )),
+        FloorAnswer::Stopped => Ok(refuse_floor(shard, pass, wide, window, FloorAnswer::Stopped)),
     }
 }

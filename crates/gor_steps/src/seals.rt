@@ -79,11 +79,7 @@ fn bytes_of(alloc: Global, name: &Name) -> Result<Bytes, AllocError>
 }
 
 // Makes the room for a seal but for the copies of its blocks, and tells whose it is.
-fn reserve_seal(
-    alloc: Global,
-    both: &mut Both,
-    window: u32,
-) -> Result<(Bytes, u64), AllocError>
+fn reserve_seal(alloc: Global, both: &mut Both, window: u32) -> Result<(Bytes, u64), AllocError>
     requires { IsSome both.old.cell.live }
     ensures same { IsSameBoth both.old both.new }
     ensures told { IfOk result (λ r. IfSome both.old.cell.live (λ s. (r.0 ≡ s.name) × (r.1 ≡ s.uid))) }

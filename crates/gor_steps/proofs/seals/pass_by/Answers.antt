@@ -3,7 +3,6 @@ use Rattle.gor_model.specs.declared.start.Start.{Start}
 use Rattle.gor_model.specs.Objects.{Has}
 use Rattle.gor_model.specs.Starts.{IsStart}
 use Rattle.gor_rule.specs.declared.view.View.{View}
-use Rattle.gor_rule.specs.Plays.{gave}
 use Rattle.gor_hall.specs.Passes.{view}
 use Rattle.gor_steps.proofs.SealLaws.{look_series, look_device, look_more, look_raised, look_below, raised_stays, below_stays, more_gave, device_gave_one}
 use Rattle.gor_steps.proofs.seals.pass_by.Goals as goal

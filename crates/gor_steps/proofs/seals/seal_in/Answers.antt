@@ -1,4 +1,4 @@
-use Rattle.std.proofs.Common.{◌≡◌, ℕ, [], List, Option, Some, sym, subst}
+use Rattle.std.proofs.Common.{[], Option, Some, sym, subst}
 use Rattle.gor_cell.specs.Packed.{Packed}
 use Rattle.gor_cell.specs.Stands as cells
 use Rattle.gor_journal.specs.Bodies.{Pending}
