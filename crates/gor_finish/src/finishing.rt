@@ -1,4 +1,12 @@
 //! A finish of a window.
+ghost use Rattle.std.specs.Prelude.{◌≡◌, ◌<◌, ◌≤◌, [], Err, IfOk, IfErr};
+ghost use Rattle.gor_model.specs.Windows.{last_window};
+ghost use Rattle.gor_hall.specs.Halls.{IsPassOf};
+ghost use Rattle.gor_hall.specs.Passes.{held, left_of_pass};
+ghost use Rattle.gor_finish.specs.declared.answered.FinishFault.TheVariants.{Window};
+ghost use Rattle.gor_finish.specs.Finishes.{IsFinish, IsRefused};
+ghost use Rattle.gor_finish.specs.Steps.{HasLeft};
+
 use crate::answered::{Answered, FinishEnd, FinishFault, FinishReply};
 use crate::closing::{close_window, stop};
 use crate::parts::{give_device, take_device};
@@ -89,7 +97,13 @@ pub fn finish<D: Disk, R: Wait>(
     shard: &Hall<Part<D>>,
     pass: &mut Pass,
     window: u32,
-) -> Result<FinishReply, FinishFault> {
+) -> Result<FinishReply, FinishFault>
+    requires { IsPassOf shard.now pass.old × (held pass.old ≡ []) × (16388 ≤ left_of_pass pass.old) }
+    ensures pass { HasLeft shard.now 16387 pass.old pass.new × (held pass.new ≡ []) }
+    ensures events { IfOk result (λ reply. IsFinish pass.old window reply pass.new) }
+    ensures refused { IfErr result (λ fault. IsRefused pass.old window fault pass.new) }
+    ensures window { last_window < window → result ≡ Err (Window window) }
+{
     if window > LAST_WINDOW {
         return Err(FinishFault::Window { window });
     }
