@@ -1,5 +1,5 @@
 -- The events of a flush, and what its answer says of them.
-use Rattle.std.specs.Prelude.{◌≡◌, ℕ, [], ◌∷◌, None}
+use Rattle.std.specs.Prelude.{◌≡◌, ℕ, [], ◌∷◌, None, Some}
 use Rattle.gor_model.specs.declared.event.Call.TheVariants as call
 use Rattle.gor_model.specs.declared.event.Reply.TheVariants as reply
 use Rattle.gor_model.specs.declared.event.Event.{Event}
@@ -18,6 +18,10 @@ take_refused lane = record { lane = lane; slot = None; call = call.Take; reply =
 -- a Done of no window at a moment of the disk's clock
 abbrev pub done_made : ℕ → ℕ → ℕ → Event
 done_made lane moment changes = record { lane = lane; slot = None; call = call.Done None moment; reply = reply.Done changes }
+
+-- a Done of a window
+abbrev pub done_of : ℕ → ℕ → ℕ → ℕ → Event
+done_of lane window moment changes = record { lane = lane; slot = None; call = call.Done (Some window) moment; reply = reply.Done changes }
 
 abbrev pub stop_made : ℕ → Event
 stop_made lane = record { lane = lane; slot = None; call = call.Stop; reply = reply.Stop }

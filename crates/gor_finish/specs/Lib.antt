@@ -1,3 +1,4 @@
 pub mod Made
 pub mod Flushes
 pub mod Steps
+pub mod Finishes

@@ -1,5 +1,5 @@
-//! The events of a flush, as values that a mark is given.
-ghost use Rattle.gor_finish.specs.Flushes.{take_made, take_refused, done_made, stop_made};
+//! The events of a flush and of a finish, as values that a mark is given.
+ghost use Rattle.gor_finish.specs.Flushes.{take_made, take_refused, done_made, done_of, stop_made};
 
 use gor_disk::Disk;
 use gor_rule::Says;
@@ -36,6 +36,19 @@ pub struct DoneMade<D: Disk> {
 
 impl<D: Disk> Says for DoneMade<D> {
     ghost event = { λ e. done_made e.lane (D.view e.disk.value).moment e.changes };
+}
+
+/// A Done that names the window of a finish, at the moment of a disk, which clauses alone see.
+#[derive(Drop)]
+pub struct DoneOfWindow<D: Disk> {
+    pub lane: u32,
+    pub window: u32,
+    pub changes: u64,
+    pub disk: Snapshot<D>,
+}
+
+impl<D: Disk> Says for DoneOfWindow<D> {
+    ghost event = { λ e. done_of e.lane e.window (D.view e.disk.value).moment e.changes };
 }
 
 /// A Stop.

@@ -28,7 +28,7 @@ use std::snapshot::Snapshot;
 use std::sync::Wait;
 
 /// Moves all that waits to the device's buffers, and gives the count of changes.
-fn move_changes<D: Disk>(device: &mut Device<D>, journal: &mut Journal) -> u64
+pub(crate) fn move_changes<D: Disk>(device: &mut Device<D>, journal: &mut Journal) -> u64
     requires { AreEmpty (shown D.tells D.view D.faults device.old).buffers }
     ensures same { with_buffers (shown D.tells D.view D.faults device.old).buffers (shown D.tells D.view D.faults device.new) ≡ shown D.tells D.view D.faults device.old }
     ensures count { result ≡ (shown D.tells D.view D.faults device.new).buffers.changes }
