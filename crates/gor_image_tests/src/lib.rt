@@ -6,7 +6,7 @@
 //!   three sealed windows, laid down by the writers of its records.
 //! - `changes`: changes of a shard, made in its journal; `reader`: a plain reader of what was written of them.
 //! - `flushes`, `devices`: what is written, whole and with each call failing; `openings`: what a device is opened on.
-//! - `crashes`: what a crash leaves of openings and flushes.
+//! - `crashes`: what a crash leaves of openings and flushes; `finishes`: of two finishes, by the calls that write their files.
 #![tactic(auto)]
 
 #[cfg(test)]
@@ -17,6 +17,8 @@ mod crashes;
 mod damage;
 #[cfg(test)]
 mod devices;
+#[cfg(test)]
+mod finishes;
 #[cfg(test)]
 mod flushes;
 #[cfg(test)]
