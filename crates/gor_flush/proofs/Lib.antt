@@ -33,3 +33,4 @@ pub mod WithinFinish
 pub mod Unread
 pub mod HasTurned
 pub mod TopsTurned
+pub mod LastFinish

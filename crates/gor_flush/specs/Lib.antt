@@ -14,3 +14,4 @@ pub mod Found
 pub mod NextMarks
 pub mod Finishes
 pub mod Finished
+pub mod LastFinish

@@ -2,6 +2,7 @@
 ghost use Rattle.gor_flush.specs.Devices.{Shown};
 ghost use Rattle.gor_flush.specs.Finished.{DoneMayWait, FinishIsDone, StandsRaised, StandsRunning, StandsSealed, StandsUnread, StopsWithoutDone, TurnShowsTops, UnreadMoments};
 ghost use Rattle.gor_flush.specs.FitTest.{FitIsTold};
+ghost use Rattle.gor_flush.specs.LastFinish.{LastFilesStay, LastFinishFlushed, LastFinishRaised, LastFinishSealed, LastFinishStopped, PiecesAreSealed};
 ghost use Rattle.gor_flush.specs.Keeps.{CallKeeps, DoneExtends, StepKeeps};
 ghost use Rattle.gor_flush.specs.Writes.{TakenMayWrite};
 
@@ -39,4 +40,18 @@ pub fn finish_laws()
     ensures finish { FinishIsDone }
     // The logs that remain with a mark are shown with the greatest windows of their puts.
     ensures tops { TurnShowsTops }
+{}
+
+/// The laws of what the last finish of a window leaves, as clauses.
+pub fn last_finish_laws()
+    // It stays where its block file, the logs before the current one and the files that its mark replaces are as they were.
+    ensures stay { LastFilesStay }
+    // A raised floor, a further seal and the Done of a flush keep it.
+    ensures raised { LastFinishRaised }
+    ensures sealed { LastFinishSealed }
+    ensures flushed { LastFinishFlushed }
+    // A Stop ends it.
+    ensures stopped { LastFinishStopped }
+    // The copies that a seal gives are its rows.
+    ensures pieces { PiecesAreSealed }
 {}

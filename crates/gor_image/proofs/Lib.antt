@@ -48,3 +48,4 @@ pub mod LiveNames
 pub mod NewIsThere
 pub mod TurnedLogs
 pub mod FinishTurned
+pub mod SealedRows

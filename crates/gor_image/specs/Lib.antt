@@ -13,3 +13,4 @@ pub mod DiskSteps
 pub mod ReadFiles
 pub mod Turns
 pub mod FinishLaws
+pub mod SealedRows

@@ -1,5 +1,6 @@
 //! What a finish may rely on.
 ghost use Rattle.gor_image.specs.FinishLaws.{NewLogIsEmpty, LiveListIsRead, BlocksStayLive, BlocksAreInFile, LowTopsHaveNoneBehind, SealsAreCopied, SeriesRise, BlockFileIsRead, LiveRecordsAreNames, NewFilesAreThere, FinishTurns, TopsStay};
+ghost use Rattle.gor_image.specs.SealedRows.{SealedRowsAreCopies, UnsealedHaveNoRows};
 
 /// The laws that a finish rests on, as clauses: what its new files are read as, before and once a mark names them.
 pub fn laws()
@@ -21,6 +22,10 @@ pub fn laws()
     ensures copied { SealsAreCopied }
     // With these rows, the points of the series rise as they did.
     ensures series { SeriesRise }
+    // The rows that the seals of a finish leave are the points of each series that was sealed, behind the last mark's window.
+    ensures sealed { SealedRowsAreCopies }
+    // A series that was not sealed has none.
+    ensures unsealed { UnsealedHaveNoRows }
     // Where all that a finish made is there beside the old files, these files turn to the new ones.
     ensures has_new { NewFilesAreThere }
     // So with the mark it holds the same state, is fit, and can be written on.

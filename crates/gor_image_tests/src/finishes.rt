@@ -1,5 +1,7 @@
 //! Two finishes by the calls that write their files and marks: what a crash leaves at each moment, also where a call fails, and
 //! on a disk with what an earlier finish left that did not come to its mark.
+ghost use Rattle.std.specs.Prelude.{◌≡◌, IsTrue, IfSome};
+ghost use Rattle.gor_gate.specs.Places.{IsEnsured};
 
 use crate::laid::{KEYS, LOG, MARKS, one_block, write};
 use crate::reader::has;
@@ -128,10 +130,6 @@ struct Step {
     state: usize,
 }
 
-const fn step(call: Call, state: usize) -> Step {
-    Step { call, state }
-}
-
 /// The changes 2 and 3: the floor rises to the end of window 0, and `a` is sealed there.
 const FIRST_SEALS: [u8; 35] = [
     1, 0, 0, 0, 0, 0, 0, 0, 2, 0, 0, 0, 0, 0, 0, 0, 3, 2, 0, 0, 0, 0, 3, 0, 0, 0, 0, 0, 0, 0, 1, 0,
@@ -170,23 +168,68 @@ const THEN_MARK: [u8; 22] = [
 ];
 
 const STEPS: [Step; 13] = [
-    step(Call::Batch(0, &FIRST_SEALS), 1),
-    step(Call::Blocks(0, &FIRST_BLOCK), 1),
-    step(Call::Keys(1, &FIRST_LIVE), 1),
-    step(Call::Log(1), 1),
-    step(Call::Mark(&FIRST_MARK), 1),
-    step(Call::Drop, 1),
-    step(Call::Batch(1, &A_PUT), 2),
-    step(Call::Batch(1, &THEN_SEALS), 3),
-    step(Call::Blocks(1, &THEN_BLOCK), 3),
-    step(Call::Keys(2, &THEN_LIVE), 3),
-    step(Call::Log(2), 3),
-    step(Call::Mark(&THEN_MARK), 3),
-    step(Call::Drop, 3),
+    Step {
+        call: Call::Batch(0, &FIRST_SEALS),
+        state: 1,
+    },
+    Step {
+        call: Call::Blocks(0, &FIRST_BLOCK),
+        state: 1,
+    },
+    Step {
+        call: Call::Keys(1, &FIRST_LIVE),
+        state: 1,
+    },
+    Step {
+        call: Call::Log(1),
+        state: 1,
+    },
+    Step {
+        call: Call::Mark(&FIRST_MARK),
+        state: 1,
+    },
+    Step {
+        call: Call::Drop,
+        state: 1,
+    },
+    Step {
+        call: Call::Batch(1, &A_PUT),
+        state: 2,
+    },
+    Step {
+        call: Call::Batch(1, &THEN_SEALS),
+        state: 3,
+    },
+    Step {
+        call: Call::Blocks(1, &THEN_BLOCK),
+        state: 3,
+    },
+    Step {
+        call: Call::Keys(2, &THEN_LIVE),
+        state: 3,
+    },
+    Step {
+        call: Call::Log(2),
+        state: 3,
+    },
+    Step {
+        call: Call::Mark(&THEN_MARK),
+        state: 3,
+    },
+    Step {
+        call: Call::Drop,
+        state: 3,
+    },
 ];
 
 /// A file of a disk that is appended to.
-fn gated_of<D: Disk>(alloc: Global, disk: &mut D, file: FileId) -> Option<Gated> {
+fn gated_of<D: Disk>(alloc: Global, disk: &mut D, file: FileId) -> Option<Gated>
+    ensures file { IfSome result (λ gated. gated.file ≡ file) }
+    ensures ensured { IsTrue D.tells → IfSome result (λ gated. IsEnsured gated (D.view disk.new)) }
+{
+    if disk.sync(file).is_err() {
+        return None;
+    }
     match read_all(alloc, disk, file) {
         Ok((mut gated, _bodies)) => match gated.ensure(disk) {
             Ok(()) => Some(gated),

@@ -5,6 +5,7 @@ use Rattle.gor_image.proofs.NewBlocks.{block_file_is_read}
 use Rattle.gor_image.proofs.NewFiles.{live_list_is_read, new_log_is_empty}
 use Rattle.gor_image.proofs.NewIsThere.{live_names, new_files_are_there}
 use Rattle.gor_image.proofs.SealedPoints.{seals_are_copied, series_rise}
+use Rattle.gor_image.proofs.SealedRows.{sealed_rows_are_copies, unsealed_have_no_rows}
 use Rattle.gor_image.proofs.TurnedLogs.{tops_stay}
 use Rattle.gor_image.proofs.finish_laws.laws.Goals as goal
 
@@ -43,3 +44,9 @@ returns-clause-turns c = finish_turns
 
 pub returns-clause-tops_stay : goal.returns-clause-tops_stay
 returns-clause-tops_stay c = tops_stay
+
+pub returns-clause-sealed : goal.returns-clause-sealed
+returns-clause-sealed c = sealed_rows_are_copies
+
+pub returns-clause-unsealed : goal.returns-clause-unsealed
+returns-clause-unsealed c = unsealed_have_no_rows
