@@ -6,7 +6,7 @@ ghost use Rattle.gor_gate.specs.Places.{IsEnsured};
 use crate::laid::{KEYS, LOG, MARKS, one_block, write};
 use crate::reader::has;
 use crate::steps::has_point;
-use gor_disk::{Disk, FileId, MemoryDisk};
+use gor_disk::{Disk, DiskKind, FileId, MemoryDisk};
 use gor_flush::drop_old;
 use gor_gate::{Frame, Gated, read_all};
 use gor_marks::Mark;
@@ -93,7 +93,7 @@ fn images_hold(alloc: Global, disk: &MemoryDisk, moment: usize, least: usize, mo
     if moment > disk.calls().len() {
         return false;
     }
-    for choice in 0..4 {
+    for choice in [0, 3] {
         let Ok(mut image) = disk.image(moment as u64, choice) else {
             return false;
         };
@@ -416,23 +416,39 @@ fn has_files(alloc: Global, disk: &mut MemoryDisk) -> bool {
     true
 }
 
+/// Whether a crash right after this call may leave what none before it left: a sync alone leaves what was written whole.
+fn is_torn(kind: DiskKind) -> bool {
+    kind == DiskKind::Write || kind == DiskKind::Cut
+}
+
+/// Whether the images of two finishes recover, and their files are as they should be.
+fn recovers(alloc: Global, left: bool) -> bool {
+    let Some(mut disk) = laid(alloc, Vec::new(alloc), left) else {
+        return false;
+    };
+    let begun = disk.calls().len();
+    let Some(ends) = ends_of(alloc, &mut disk) else {
+        return false;
+    };
+    for (place, call) in disk.calls().iter().enumerate() {
+        if begun <= place && is_torn(call.kind) && !holds_at(alloc, &disk, &ends, place + 1) {
+            return false;
+        }
+    }
+    let last = disk.calls().len();
+    ends.len() == STEPS.len()
+        && holds_at(alloc, &disk, &ends, last)
+        && has_files(alloc, &mut disk)
+}
+
 #[test]
 fn each_image_of_two_finishes_recovers(rt: HostRuntime) {
-    for left in [false, true] {
-        let Some(mut disk) = laid(rt.alloc(), Vec::new(rt.alloc()), left) else {
-            panic!(rt; "the store was not laid");
-        };
-        let begun = disk.calls().len();
-        let Some(ends) = ends_of(rt.alloc(), &mut disk) else {
-            panic!(rt; "no memory");
-        };
-        assert!(rt; ends.len() == STEPS.len(), "{} steps", ends.len());
-        for moment in begun..disk.calls().len() + 1 {
-            let holds = holds_at(rt.alloc(), &disk, &ends, moment);
-            assert!(rt; holds, "leavings {left}, moment {moment}");
-        }
-        assert!(rt; has_files(rt.alloc(), &mut disk), "leavings {left}");
-    }
+    assert!(rt; recovers(rt.alloc(), false));
+}
+
+#[test]
+fn each_image_beside_what_an_earlier_finish_left_recovers(rt: HostRuntime) {
+    assert!(rt; recovers(rt.alloc(), true));
 }
 
 /// Whether the step that meets the call that fails is the last, and each image is of the states before and after it.
@@ -459,21 +475,31 @@ fn is_stopped(alloc: Global, ends: &[usize], place: usize, left: bool) -> bool {
         )
 }
 
-#[test]
-fn each_call_of_two_finishes_fails_in_turn(rt: HostRuntime) {
-    for left in [false, true] {
-        let Some(mut disk) = laid(rt.alloc(), Vec::new(rt.alloc()), left) else {
-            panic!(rt; "the store was not laid");
-        };
-        let begun = disk.calls().len();
-        let Some(ends) = ends_of(rt.alloc(), &mut disk) else {
-            panic!(rt; "no memory");
-        };
-        for place in begun..disk.calls().len() {
-            assert!(rt;
-                is_stopped(rt.alloc(), &ends, place, left),
-                "leavings {left}, call {place}"
-            );
+/// The first call of two finishes that does not stop them as it should when it fails; none where each does.
+fn first_wrong(alloc: Global, left: bool) -> Option<usize> {
+    let Some(mut disk) = laid(alloc, Vec::new(alloc), left) else {
+        return Some(0);
+    };
+    let begun = disk.calls().len();
+    let Some(ends) = ends_of(alloc, &mut disk) else {
+        return Some(begun);
+    };
+    for place in begun..disk.calls().len() {
+        if !is_stopped(alloc, &ends, place, left) {
+            return Some(place);
         }
     }
+    None
+}
+
+#[test]
+fn each_call_of_two_finishes_fails_in_turn(rt: HostRuntime) {
+    let wrong = first_wrong(rt.alloc(), false);
+    assert!(rt; wrong.is_none(), "call {wrong:?}");
+}
+
+#[test]
+fn each_call_beside_what_an_earlier_finish_left_fails_in_turn(rt: HostRuntime) {
+    let wrong = first_wrong(rt.alloc(), true);
+    assert!(rt; wrong.is_none(), "call {wrong:?}");
 }
